@@ -1,0 +1,11 @@
+pub mod Limits
+pub mod Refusals
+pub mod Values
+pub mod Rules
+pub mod Order
+pub mod Standing
+pub mod Lists
+pub mod Solutions
+pub mod Calls
+pub mod Histories
+pub mod Proper

@@ -1,0 +1,6 @@
+pub mod Lengths
+pub mod Placing
+pub mod Padding
+pub mod Comparing
+pub mod Unique
+pub mod Cases

@@ -1,0 +1,2 @@
+pub mod Upwards
+pub mod Compared
