@@ -168,7 +168,7 @@ bit-iff a b v f g = go (bit-cases a v) (bit-cases b v)
     go (inr x) (inl y) = let z = f x in omega arith
     go (inr x) (inr y) = omega arith
 
-lt-two-pow : (n : ℕ) → n < 2 ^ n
+pub lt-two-pow : (n : ℕ) → n < 2 ^ n
 lt-two-pow zero = pow-pos 0
 lt-two-pow (suc n) = omega (arith, lt-two-pow n, pow-suc 2 n)
 

@@ -81,7 +81,7 @@ outside-no k n e =
     let a = eqb-false n 0 (h .0) in
     (omega arith, ltb-false k n (h .1))
 
-beyond-no : (k : ℕ) (z : ℤ) → beyond k z ≡ false → Around k z
+pub beyond-no : (k : ℕ) (z : ℤ) → beyond k z ≡ false → Around k z
 beyond-no k (pos n) e = ltb-false k n e
 beyond-no k (negsuc n) e = leb-false k n e
 

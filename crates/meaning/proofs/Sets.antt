@@ -1,13 +1,15 @@
 -- Sets that are equal, empty, of one value, or the same but for one value. Assumes nothing.
 use mathlib.Core.Path.{_≡_, sym, _∙_}
-use mathlib.Core.Logic.{_⊎_, inl, inr, _↔_}
-use Prim.Native.Nat.{ℕ, zero, suc, _+_, _-_, _^_, _≤_, _<_}
+use mathlib.Core.Logic.{_⊎_, inl, inr, _↔_, by-cases}
+use Prim.Native.Nat.{ℕ, zero, suc, _+_, _-_, _%_, _^_, _≤_, _<_}
+use native.Mathlib.Nat.{mod-lt}
 use native.Mathlib.Omega.{arith}
 use native.Mathlib.Decide.{ℕ-discrete, decLt}
+use lib.Pow.{pow-pos}
 use lib.Bits.{bitAnd, bitOr}
-use Rattle.meaning.specs.Values.{bit, Has, Lacks, size}
-use Rattle.meaning.proofs.Digits.{bit-lt, bit-cases, lacks-of-not, zero-bit, has-small, ext, bit-and, bit-or, bit-pow-same, bit-pow-other, bit-iff}
-use Rattle.meaning.proofs.Sizes.{Subset, total-ext, total-at, total-ge, size-at, size-some, size-lt, size-of-zero}
+use Rattle.meaning.specs.Values.{bit, Has, Lacks, total, size}
+use Rattle.meaning.proofs.Digits.{bit-lt, bit-cases, lacks-of-not, zero-bit, has-small, lt-two-pow, ext, ext-below, ext-all, bit-high, bit-mod, bit-and, bit-or, bit-pow-same, bit-pow-other, bit-iff}
+use Rattle.meaning.proofs.Sizes.{Subset, total-ext, total-at, total-ge, total-some, size-at, size-some, size-lt, size-of-zero}
 
 -- ---- equal sets
 
@@ -40,6 +42,27 @@ nonzero-has m h p = size-some m (go (decLt 0 (size m)))
     go : Dec (0 < size m) → 0 < size m
     go (yes q) = q
     go (no f) = let e = size-zero m h (omega arith) in absurd (omega arith)
+
+-- a number above 0 has a digit 1, however large it is
+pub some-digit : (m : ℕ) → 0 < m → (v : ℕ) × Has m v
+some-digit m p =
+    let (v, l, h) = total-some (bit m) m (go (decLt 0 (total (bit m) m))) in
+    let b = bit-lt m v in
+    (v, omega arith)
+  where
+    go : Dec (0 < total (bit m) m) → 0 < total (bit m) m
+    go (yes q) = q
+    go (no f) =
+        let e = ext-below m m 0 (lt-two-pow m) (pow-pos m) (λ v l. let t = total-ge (bit m) m v l in let z = zero-bit v in omega arith) in
+        absurd (omega arith)
+
+-- a number with no digit 1 from the 64th on is a word
+pub word-of-digits : (m : ℕ) → ((v : ℕ) → 64 ≤ v → Lacks m v) → m < 2 ^ 64
+word-of-digits m f = rw e (mod-lt m (pow-pos 64))
+  where
+    e : m ≡ m % 2 ^ 64
+    e = ext-all m (m % 2 ^ 64) λ v. by-cases (decLt v 64) (λ l. sym (bit-mod m 64 v l))
+        (λ n. f v (omega arith) ∙ sym (bit-high 64 {m = m % 2 ^ 64} v (mod-lt m (pow-pos 64)) (omega arith)))
 
 pub nonzero-iff : (m : ℕ) → m < 2 ^ 64 → (0 < m) ↔ ((v : ℕ) × (v < 64) × Has m v)
 nonzero-iff m h = (nonzero-has m h, λ (v, l, e). has-nonzero m v e)

@@ -11,21 +11,13 @@ use lib.Seq.{getD-set-same, getD-set-other, getD-take, getD-at}
 use Rattle.meaning.specs.Values.{bit, Has, Lacks}
 use Rattle.meaning.specs.Rules.{Rule, scopeOf, at}
 use Rattle.meaning.specs.Standing.{Standing, Decision, pinned, banned, Permits, nothing}
-use Rattle.meaning.specs.Lists.{Left, Supported, Closed, Within, Largest}
-use Rattle.meaning.specs.Calls.{withRule, withDecisions, Call, addVariable, nameObjectives, accepted}
+use Rattle.meaning.specs.Lists.{Left, Supported, Closed, Within, Largest, Cut}
+use Rattle.meaning.specs.Calls.{withRule, withDecisions, decide, Call, addVariable, nameObjectives, accepted}
 use Rattle.meaning.proofs.Digits.{bit-pow-same, bit-pow-other}
 use Rattle.meaning.proofs.Largest.{Between, supported-mono}
 use Rattle.meaning.proofs.Solutions.{left-below}
 
 -- ---- a decision
-
--- C is what the decision d lets stay of L
-pub record Cut (d : Decision) (L C : List ℕ) : Type 0 where
-  pub long : length C ≡ length L
-  pub stays : (y u : ℕ) → Left C y u ↔ (Left L y u × Permits d y u)
-
-abbrev pub decide : Standing → Decision → Standing
-decide w d = withDecisions w (w .decisions ++ (d ∷ []))
 
 pub cut-between : {w : Standing} {L C : List ℕ} (d : Decision) → Largest w L → Cut d L C → Between (decide w d) C
 cut-between {w} {L} {C} d a c = record {

@@ -123,14 +123,17 @@ module _ (w : Standing) where
   abbrev pub withDecisions : List Decision → Standing
   withDecisions ds = record { declared = w .declared; rules = w .rules; objectives = w .objectives; decisions = ds }
 
+  abbrev pub decide : Decision → Standing
+  decide d = withDecisions (w .decisions ++ (d ∷ []))
+
   abbrev pub accepted : Call → Standing
   accepted (addVariable m) =
       record { declared = w .declared ++ (m ∷ []); rules = w .rules; objectives = w .objectives; decisions = w .decisions }
   accepted (addTable sort s cells) = withRule (ruleOf sort s cells)
   accepted (addLinear s cs b) = withRule (linear s cs b)
   accepted (nameObjectives xs) = record { declared = w .declared; rules = w .rules; objectives = xs; decisions = w .decisions }
-  accepted (pin x v) = withDecisions (w .decisions ++ (pinned x v ∷ []))
-  accepted (ban x v) = withDecisions (w .decisions ++ (banned x v ∷ []))
+  accepted (pin x v) = decide (pinned x v)
+  accepted (ban x v) = decide (banned x v)
   accepted (takeBack k) = withDecisions (take k (w .decisions))
 
   -- a refused call changes nothing

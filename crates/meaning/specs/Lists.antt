@@ -1,5 +1,6 @@
 -- The values left: the largest lists, within the declared values and the outstanding decisions, where every value has support.
 use mathlib.Core.Path.{_≡_}
+use mathlib.Core.Logic.{_↔_}
 use mathlib.Core.List.{List, List·Memᴰ}
 use Prim.Native.Nat.{ℕ}
 use lib.ListN.{length, getD}
@@ -33,3 +34,8 @@ pub record Largest (w : Standing) (L : List ℕ) : Type 0 where
   pub within : Within w L
   pub closed : Closed (w .rules) L
   pub most : (K : List ℕ) → Within w K → Closed (w .rules) K → (x v : ℕ) → Left K x v → Left L x v
+
+-- C is what the decision d lets stay of L
+pub record Cut (d : Decision) (L C : List ℕ) : Type 0 where
+  pub long : length C ≡ length L
+  pub stays : (x v : ℕ) → Left C x v ↔ (Left L x v × Permits d x v)

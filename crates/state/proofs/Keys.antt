@@ -1,0 +1,141 @@
+-- Keys of tuples, and a search from the last tuple to the first with a mark at each key passed. Assumes nothing.
+use mathlib.Core.Path.{_≡_, refl, sym, ap, ap₂, _∙_, subst}
+use mathlib.Core.Logic.{⊎-elim, by-cases}
+use mathlib.Core.Bool.{Bool, true, false, _||_, true≢false}
+use mathlib.Core.List.{List, [], _∷_, List·Memᴰ, List·Memᴰ·not-nil, List·Memᴰ·cases-cons}
+use Prim.Native.Nat.{ℕ, _+_, _-_, _*_, _/_, _%_, _≤_, _<_}
+use native.Mathlib.Nat.{mod-eq-of-lt, mod-eq-sub-mod, div-add-mod'}
+use native.Mathlib.Decide.{ℕ-discrete, decLe}
+use native.Mathlib.Numerals.{add-one}
+use native.Mathlib.Omega.{arith}
+use lib.Dec.{T, eqb, eqb→eq}
+use lib.ListN.{length, getD, set, drop, length-set, length-drop, drop-of-length-le}
+use lib.Seq.{drop-cons, drop-drop, getD-set-same, getD-set-other}
+use Rattle.meaning.specs.Calls.{some, same, repeats}
+use Rattle.meaning.proofs.Tests.{and-left, and-right}
+use Rattle.state.specs.Checks.{tupleAt, tuplesIn, listedAgain, keyLimit, keyFrom}
+use Rattle.state.proofs.Searching.{earlier, some-none}
+use Rattle.state.proofs.Tuples.{cell, tuple-long, tuples-none, tuples-more, twice-search}
+
+-- ---- a key, cell by cell
+
+module _ (n : ℕ) (cells : List ℕ) (place : ℕ) (fits : place + n ≤ length cells) (key j : ℕ) {w : ℕ} (rest : keyFrom key (drop j (tupleAt n cells place)) ≡ w) where
+  pub key-next : j < n → keyFrom ((key * 67 + getD cells (place + j) 0) % keyLimit) (drop (j + 1) (tupleAt n cells place)) ≡ w
+  unfolding keyFrom
+  key-next h =
+      let t = tupleAt n cells place in
+      let e = ap (keyFrom key) (drop-cons t j 0 (omega (arith, tuple-long n cells place fits))) in
+      rw (add-one j, sym (cell n cells place j h)) (sym e ∙ rest)
+
+  pub key-last : n ≤ j → key ≡ w
+  unfolding keyFrom
+  key-last h =
+      let past : length (tupleAt n cells place) ≤ j = omega (arith, tuple-long n cells place fits) in
+      sym (ap (keyFrom key) (drop-of-length-le (tupleAt n cells place) past)) ∙ rest
+
+-- ---- marks
+
+same-is : (u v : List ℕ) → T (same u v) → u ≡ v
+unfolding same
+same-is [] [] t = refl
+same-is [] (y ∷ v) t = absurd t
+same-is (x ∷ u) [] t = absurd t
+same-is (x ∷ u) (y ∷ v) t =
+    ap₂ _∷_ (eqb→eq x y (and-left (eqb x y) (same u v) t)) (same-is u v (and-right (eqb x y) (same u v) t))
+
+-- the key of each tuple is marked
+abbrev Marked : List Bool → List (List ℕ) → Type 0
+Marked marked ts = (u : List ℕ) → List·Memᴰ u ts → getD marked (keyFrom 0 u) false ≡ true
+
+unmarked : (marked : List Bool) (ts : List (List ℕ)) (u : List ℕ) → Marked marked ts → getD marked (keyFrom 0 u) false ≡ false → some (same u) ts ≡ false
+unmarked marked ts u m e = some-none (same u) ts (λ v i. differs v i (same u v) refl)
+  where
+    differs : (v : List ℕ) → List·Memᴰ v ts → (b : Bool) → same u v ≡ b → b ≡ false
+    differs v i false q = refl
+    differs v i true q = absurd (true≢false (sym (m v i) ∙ ap (λ (t : List ℕ). getD marked (keyFrom 0 t) false) (sym (same-is u v (subst T (sym q) tt))) ∙ e))
+
+marked-too : (marked : List Bool) (ts : List (List ℕ)) (u : List ℕ) → keyFrom 0 u < length marked → Marked marked ts → Marked (set marked (keyFrom 0 u) true) (u ∷ ts)
+marked-too marked ts u small m v i =
+    by-cases (ℕ-discrete (keyFrom 0 v) (keyFrom 0 u))
+    (λ q. ap (λ (k : ℕ). getD (set marked (keyFrom 0 u) true) k false) q ∙ getD-set-same marked (keyFrom 0 u) true false small)
+    (λ d. getD-set-other marked (keyFrom 0 u) (keyFrom 0 v) true false d ∙ ⊎-elim (λ q. absurd (d (ap (keyFrom 0) q))) (m v) (List·Memᴰ·cases-cons i))
+
+-- ---- the search
+
+-- what holds once the tuples from a place on are passed: none of them stands twice, and their keys are marked
+pub record Passed (a : ℕ) (cells : List ℕ) (place : ℕ) (marked : List Bool) : Type 0 where
+  pub inside : place ≤ length cells
+  pub whole : place % a ≡ 0
+  pub once : repeats same (tuplesIn a (drop place cells)) ≡ false
+  pub long : length marked ≡ keyLimit
+  pub marks : Marked marked (tuplesIn a (drop place cells))
+
+module _ (a : ℕ) (some-cells : 0 < a) (cells : List ℕ) where
+  pub passed-none : (marked : List Bool) → length marked ≡ keyLimit → length cells % a ≡ 0 → Passed a cells (length cells) marked
+  unfolding repeats
+  passed-none marked l h =
+      let none : tuplesIn a (drop (length cells) cells) ≡ [] = tuples-none a some-cells (drop (length cells) cells) (omega (arith, length-drop (length cells) cells)) in
+      record {
+        inside = omega arith;
+        whole = h;
+        once = ap (repeats same) none;
+        long = l;
+        marks = λ u m. absurd (List·Memᴰ·not-nil (rw none at m));
+      }
+
+  pub none-twice : (marked : List Bool) (place : ℕ) → Passed a cells place marked → place ≤ 0 → false ≡ repeats same (tuplesIn a cells)
+  none-twice marked place p h =
+      let e : place ≡ 0 = omega arith in
+      sym (p .once) ∙ ap (λ (k : ℕ). repeats same (tuplesIn a (drop k cells))) e
+
+  module _ (place : ℕ) (marked : List Bool) (p : Passed a cells place marked) (left : 0 < place) where
+    pub one-left : a ≤ place
+    one-left = by-cases (decLe a place) (λ h. h) (λ d. let l : place < a = omega arith in absurd (omega (arith, mod-eq-of-lt l, p .whole)))
+
+    -- the tuple before the place, and those from the place on
+    tuple : List ℕ
+    tuple = tupleAt a cells (place - a)
+
+    others : List (List ℕ)
+    others = tuplesIn a (drop place cells)
+
+    tuples-are : tuplesIn a (drop (place - a) cells) ≡ tuple ∷ others
+    unfolding tuple others
+    tuples-are =
+        let back : place - a + a ≡ place = omega (arith, one-left) in
+        tuples-more a some-cells (drop (place - a) cells) (omega (arith, length-drop (place - a) cells, p .inside, one-left))
+        ∙ ap (λ (l : List ℕ). tuple ∷ tuplesIn a l) (drop-drop a (place - a) cells ∙ ap (λ (k : ℕ). drop k cells) back)
+
+    again-is : listedAgain a cells (place - a) ≡ some (same tuple) others
+    unfolding tuple others
+    again-is = let back : place - a + a ≡ place = omega (arith, one-left) in ap (λ (k : ℕ). some (same tuple) (tuplesIn a (drop k cells))) back
+
+    repeats-are : repeats same (tuplesIn a (drop (place - a) cells)) ≡ (listedAgain a cells (place - a) || repeats same others)
+    unfolding repeats
+    repeats-are = ap (repeats same) tuples-are ∙ ap (λ (b : Bool). b || repeats same others) (sym again-is)
+
+    whole-before : (place - a) % a ≡ 0
+    whole-before = sym (mod-eq-sub-mod one-left) ∙ p .whole
+
+    -- a tuple whose key isn't marked doesn't stand again
+    pub unmarked-once : (key : ℕ) → key ≡ keyFrom 0 (tupleAt a cells (place - a)) → getD marked key false ≡ false → listedAgain a cells (place - a) ≡ false
+    unfolding tuple others
+    unmarked-once key e f = again-is ∙ unmarked marked others tuple (p .marks) (ap (λ (k : ℕ). getD marked k false) (sym e) ∙ f)
+
+    pub passed-one : (key : ℕ) → key ≡ keyFrom 0 (tupleAt a cells (place - a)) → key < keyLimit → listedAgain a cells (place - a) ≡ false → Passed a cells (place - a) (set marked key true)
+    unfolding tuple others
+    passed-one key e small f = record {
+      inside = omega (arith, p .inside);
+      whole = whole-before;
+      once = repeats-are ∙ ap (λ (b : Bool). b || repeats same others) f ∙ p .once;
+      long = length-set marked key true ∙ p .long;
+      marks = subst (λ (l : List (List ℕ)). Marked (set marked key true) l) (sym tuples-are)
+          (subst (λ (k : ℕ). Marked (set marked k true) (tuple ∷ others)) (sym e) (marked-too marked others tuple (omega (arith, p .long)) (p .marks)));
+    }
+
+    pub found-twice : listedAgain a cells (place - a) ≡ true → true ≡ repeats same (tuplesIn a cells)
+    found-twice f =
+        let steps : (place - a) / a * a ≡ place - a = omega (arith, div-add-mod' (place - a) a, whole-before) in
+        let here = repeats-are ∙ ap (λ (b : Bool). b || repeats same others) f in
+        sym (earlier (twice-search a some-cells) ((place - a) / a) cells (omega (arith, p .inside))
+        (ap (λ (k : ℕ). repeats same (tuplesIn a (drop k cells))) steps ∙ here))

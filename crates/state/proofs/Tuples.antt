@@ -1,0 +1,72 @@
+-- Tuples that lie one after the other in a list of cells: comparing two, and searching for one that stands twice. Assumes nothing.
+use mathlib.Core.Path.{_≡_, sym, ap, ap₂, _∙_}
+use mathlib.Core.Bool.{Bool, true, false, _&&_}
+use mathlib.Core.List.{List, [], _∷_}
+use Prim.Native.Nat.{ℕ, suc, _+_, _-_, _/_, _≤_, _<_}
+use native.Mathlib.Nat.{div-eq-of-lt, div-eq-sub-div}
+use native.Mathlib.Numerals.{add-one}
+use native.Mathlib.Omega.{arith}
+use borrow.Author.Tests.{eq-eqb, ne-eqb}
+use lib.Dec.{eqb}
+use lib.ListN.{length, getD, take, drop, length-drop, drop-of-length-le}
+use lib.Seq.{drop-cons, getD-take, getD-drop, length-take-le}
+use Rattle.meaning.specs.Calls.{some, same, repeats, rows}
+use Rattle.state.specs.Checks.{tupleAt, tuplesIn}
+use Rattle.state.proofs.Searching.{Search}
+
+-- ---- comparing two lists, place by place
+
+module _ (u v : List ℕ) (j : ℕ) {w : Bool} (rest : same (drop j u) (drop j v) ≡ w) where
+  here : j < length u → j < length v → (b : Bool) → eqb (getD u j 0) (getD v j 0) ≡ b → (b && same (drop (j + 1) u) (drop (j + 1) v)) ≡ w
+  unfolding same
+  here h k b e = rw (add-one j) (rw (sym e) (sym (ap₂ same (drop-cons u j 0 h) (drop-cons v j 0 k)) ∙ rest))
+
+  same-ends : length u ≤ j → length v ≤ j → true ≡ w
+  unfolding same
+  same-ends h k = sym (ap₂ same (drop-of-length-le u h) (drop-of-length-le v k)) ∙ rest
+
+-- ---- the same for two tuples among the cells
+
+module _ (n : ℕ) (cells : List ℕ) where
+  pub cell : (a j : ℕ) → j < n → getD (tupleAt n cells a) j 0 ≡ getD cells (a + j) 0
+  cell a j h = getD-take n (drop a cells) j 0 h ∙ getD-drop a cells j 0
+
+  pub tuple-long : (a : ℕ) → a + n ≤ length cells → length (tupleAt n cells a) ≡ n
+  tuple-long a h = length-take-le n (drop a cells) (omega (arith, length-drop a cells))
+
+  module _ (a b : ℕ) (fits : (a + n ≤ length cells) × (b + n ≤ length cells)) (j : ℕ) {w : Bool} (rest : same (drop j (tupleAt n cells a)) (drop j (tupleAt n cells b)) ≡ w) where
+    tested : j < n → (t : Bool) → eqb (getD cells (a + j) 0) (getD cells (b + j) 0) ≡ t → (t && same (drop (j + 1) (tupleAt n cells a)) (drop (j + 1) (tupleAt n cells b))) ≡ w
+    tested h t e =
+        here (tupleAt n cells a) (tupleAt n cells b) j rest (omega (arith, tuple-long a (fits .0))) (omega (arith, tuple-long b (fits .1))) t
+        (ap₂ eqb (cell a j h) (cell b j h) ∙ e)
+
+    pub tuple-passed : j < n → getD cells (a + j) 0 ≡ getD cells (b + j) 0 → same (drop (j + 1) (tupleAt n cells a)) (drop (j + 1) (tupleAt n cells b)) ≡ w
+    tuple-passed h e = tested h true (eq-eqb (getD cells (a + j) 0) (getD cells (b + j) 0) e)
+
+    pub tuple-differs : j < n → ¬ (getD cells (a + j) 0 ≡ getD cells (b + j) 0) → false ≡ w
+    tuple-differs h d = tested h false (ne-eqb (getD cells (a + j) 0) (getD cells (b + j) 0) d)
+
+    pub tuple-ends : n ≤ j → true ≡ w
+    tuple-ends h = same-ends (tupleAt n cells a) (tupleAt n cells b) j rest (omega (arith, tuple-long a (fits .0))) (omega (arith, tuple-long b (fits .1)))
+
+-- ---- tuples
+
+module _ (a : ℕ) (some-cells : 0 < a) where
+  pub tuples-none : (l : List ℕ) → length l < a → tuplesIn a l ≡ []
+  unfolding rows
+  tuples-none l h = ap (λ (n : ℕ). rows n a l) (div-eq-of-lt h)
+
+  pub tuples-more : (l : List ℕ) → a ≤ length l → tuplesIn a l ≡ take a l ∷ tuplesIn a (drop a l)
+  unfolding rows
+  tuples-more l h =
+      let e : length l / a ≡ suc (length (drop a l) / a) =
+      div-eq-sub-div some-cells h ∙ add-one ((length l - a) / a) ∙ ap (λ (n : ℕ). suc (n / a)) (sym (length-drop a l)) in
+      ap (λ (n : ℕ). rows n a l) e
+
+  pub again-search : (u : List ℕ) → Search (λ l. some (same u) (tuplesIn a l)) (λ l. same u (take a l)) a
+  unfolding some
+  again-search u = record { none = λ l h. ap (some (same u)) (tuples-none l h); more = λ l h. ap (some (same u)) (tuples-more l h) }
+
+  pub twice-search : Search (λ l. repeats same (tuplesIn a l)) (λ l. some (same (take a l)) (tuplesIn a (drop a l))) a
+  unfolding repeats
+  twice-search = record { none = λ l h. ap (repeats same) (tuples-none l h); more = λ l h. ap (repeats same) (tuples-more l h) }

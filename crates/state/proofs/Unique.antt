@@ -1,0 +1,135 @@
+-- Demand 1: two results that a public contract allows are equal. Assumes nothing.
+use mathlib.Core.Path.{_≡_, refl, sym, ap, _∙_}
+use mathlib.Core.Logic.{inl, inr, by-cases}
+use mathlib.Core.List.{List, [], _∷_}
+use Prim.Native.Nat.{ℕ, _+_, _-_, _*_, _/_, _%_, _≤_, _<_}
+use native.Mathlib.Decide.{decLt, decLe}
+use native.Mathlib.Omega.{arith}
+use lib.ListN.{length, getD}
+use lib.Seq.{ext-getD}
+use Rattle.meaning.specs.Limits.{variableLimit, decisionLimit}
+use Rattle.meaning.specs.Refusals.{number}
+use Rattle.meaning.specs.Standing.{Standing}
+use Rattle.meaning.specs.Calls.{Call}
+use Rattle.meaning.proofs.Largest.{largest-unique}
+use Rattle.meaning.proofs.Proper.{number-above}
+use Rattle.state.specs.declared.State.{State}
+use Rattle.state.specs.declared.Refusal.{Refusal}
+use Rattle.state.specs.declared.Refusal.the-variants.{NoSuchVariable, VariableTwice, WrongLength, OutOfRange, TupleTwice, Full, Malformed, NotLeft, TooManyDecisions, TooDeep, ShortBuffer, NoObjective, Decided}
+use Rattle.state.specs.declared.Answer.{Answer}
+use Rattle.state.specs.declared.Answer.the-variants.{Accepted, Refused}
+use Rattle.state.specs.declared.DecisionAnswer.{DecisionAnswer}
+use Rattle.state.specs.declared.DecisionAnswer.the-variants as DecisionAnswers
+use Rattle.state.specs.declared.Left.{Left}
+use Rattle.state.specs.declared.Left.the-variants as Lefts
+use Rattle.state.specs.Holds.{Holds, HoldsLists, Reached, block, blockPlaces}
+use Rattle.state.specs.Promises.{Answers, TellsLeft, numberOf, decisionNumber, leftNumber, leftValues, tableOf}
+use Rattle.state.proofs.Holding.{current}
+use Rattle.state.proofs.Depths.{block-at}
+
+-- ---- states
+
+lists-unique : {w : Standing} {l m : List ℕ} → HoldsLists l w → HoldsLists m w → l ≡ m
+lists-unique {w} {l} {m} a b = ext-getD 0 l m (a .long ∙ sym (b .long)) λ i inside.
+    let k = i / variableLimit in
+    let x = i % variableLimit in
+    let e : variableLimit * k + x ≡ i = omega arith in
+    ap (λ (j : ℕ). getD l j 0) (sym e) ∙ same k x (omega arith) ∙ ap (λ (j : ℕ). getD m j 0) e
+  where
+    same : (k x : ℕ) → x < variableLimit → getD l (variableLimit * k + x) 0 ≡ getD m (variableLimit * k + x) 0
+    same k x small =
+        by-cases (decLe k (length (w .decisions)))
+        (λ low. by-cases (decLt x (length (w .declared)))
+        (λ known. sym (block-at l k (length (w .declared)) x known) ∙ ap (λ (b : List ℕ). getD b x 0) (largest-unique (a .left k low) (b .left k low)) ∙ block-at m k (length (w .declared)) x known)
+        (λ past. a .rest k x small (inl (omega arith)) ∙ sym (b .rest k x small (inl (omega arith)))))
+        (λ deep. a .rest k x small (inr (omega arith)) ∙ sym (b .rest k x small (inr (omega arith))))
+
+-- two states that hold the same are equal
+pub holds-unique : {w : Standing} {s t : State} → Holds s w → Holds t w → s ≡ t
+holds-unique {s} {t} a b i = record {
+  variables = (a .variables ∙ sym (b .variables)) i;
+  declared = (a .declared ∙ sym (b .declared)) i;
+  rules = (a .rules ∙ sym (b .rules)) i;
+  heads = (a .heads ∙ sym (b .heads)) i;
+  used = (a .used ∙ sym (b .used)) i;
+  room = (a .room ∙ sym (b .room)) i;
+  objectives = (a .objectives ∙ sym (b .objectives)) i;
+  objective = (a .objective ∙ sym (b .objective)) i;
+  depth = (a .depth ∙ sym (b .depth)) i;
+  lists = lists-unique (a .lists) (b .lists) i;
+}
+
+-- ---- answers, by their numbers
+
+-- the refusals in the order of their numbers, from 1
+refusals : List Refusal
+refusals =
+    NoSuchVariable ∷ VariableTwice ∷ WrongLength ∷ OutOfRange ∷ TupleTwice ∷ Full ∷ Malformed ∷ NotLeft ∷ TooManyDecisions ∷ TooDeep ∷ ShortBuffer ∷ NoObjective ∷ Decided ∷ []
+
+named : ℕ → Refusal
+named n = getD refusals (n - 1) NoSuchVariable
+
+named-number : (r : Refusal) → named (number (tableOf r)) ≡ r
+unfolding named refusals
+named-number NoSuchVariable = refl
+named-number VariableTwice = refl
+named-number WrongLength = refl
+named-number OutOfRange = refl
+named-number TupleTwice = refl
+named-number Full = refl
+named-number Malformed = refl
+named-number NotLeft = refl
+named-number TooManyDecisions = refl
+named-number TooDeep = refl
+named-number ShortBuffer = refl
+named-number NoObjective = refl
+named-number Decided = refl
+
+same-refusal : (r q : Refusal) → number (tableOf r) ≡ number (tableOf q) → r ≡ q
+same-refusal r q e = sym (named-number r) ∙ ap named e ∙ named-number q
+
+not-accepted : {A : Type 0} (r : Refusal) → number (tableOf r) ≡ 0 → A
+not-accepted r e = let p = number-above (tableOf r) in absurd (omega arith)
+
+pub answer-unique : (a b : Answer) → numberOf a ≡ numberOf b → a ≡ b
+answer-unique Accepted Accepted e = refl
+answer-unique Accepted (Refused q) e = not-accepted q (sym e)
+answer-unique (Refused r) Accepted e = not-accepted r e
+answer-unique (Refused r) (Refused q) e = ap Refused (same-refusal r q e)
+
+pub decision-unique : (a b : DecisionAnswer) → decisionNumber a ≡ decisionNumber b → a ≡ b
+decision-unique DecisionAnswers.Accepted DecisionAnswers.Accepted e = refl
+decision-unique DecisionAnswers.Accepted (DecisionAnswers.Refused q) e = not-accepted q (sym e)
+decision-unique (DecisionAnswers.Refused r) DecisionAnswers.Accepted e = not-accepted r e
+decision-unique (DecisionAnswers.Refused r) (DecisionAnswers.Refused q) e = ap DecisionAnswers.Refused (same-refusal r q e)
+
+left-unique : (a b : Left) → leftNumber a ≡ leftNumber b → leftValues a ≡ leftValues b → a ≡ b
+left-unique (Lefts.Values m) (Lefts.Values n) e f = ap Lefts.Values f
+left-unique (Lefts.Values m) (Lefts.Refused q) e f = not-accepted q (sym e)
+left-unique (Lefts.Refused r) (Lefts.Values n) e f = not-accepted r e
+left-unique (Lefts.Refused r) (Lefts.Refused q) e f = ap Lefts.Refused (same-refusal r q e)
+
+-- ---- calls
+
+module _ {s : State} (reached : Reached s) where
+  -- every call that changes what stands
+  pub call-unique : (c : Call) {m n : ℕ} {t u : State} → Answers s c m t → Answers s c n u → (m ≡ n) × (t ≡ u)
+  call-unique c a b =
+      let (h, w, l, hold) = reached in
+      let (e, x) = a h w _ l hold (current hold) in
+      let (f, y) = b h w _ l hold (current hold) in
+      (e ∙ sym f, holds-unique x y)
+
+  -- the same for the answers that the code gives
+  pub answers-unique : (c : Call) {a b : Answer} {t u : State} → Answers s c (numberOf a) t → Answers s c (numberOf b) u → (a ≡ b) × (t ≡ u)
+  answers-unique c {a} {b} x y = let (e, f) = call-unique c x y in (answer-unique a b e, f)
+
+  pub decisions-unique : (c : Call) {a b : DecisionAnswer} {t u : State} → Answers s c (decisionNumber a) t → Answers s c (decisionNumber b) u → (a ≡ b) × (t ≡ u)
+  decisions-unique c {a} {b} x y = let (e, f) = call-unique c x y in (decision-unique a b e, f)
+
+  pub values-left-unique : (x : ℕ) (a b : Left) → TellsLeft s x a → TellsLeft s x b → a ≡ b
+  values-left-unique x a b p q =
+      let (h, w, l, hold) = reached in
+      let (e, f) = p h w _ l hold (current hold) in
+      let (g, k) = q h w _ l hold (current hold) in
+      left-unique a b (e ∙ sym g) (f ∙ sym k)

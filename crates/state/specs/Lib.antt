@@ -1,0 +1,12 @@
+pub mod Layout
+pub mod Filter
+pub mod Tables
+pub mod Sifting
+pub mod Linear
+pub mod Spreading
+pub mod Checks
+pub mod Writing
+pub mod Holds
+pub mod Promises
+pub mod Additions
+pub mod Runs

@@ -1,0 +1,270 @@
+// Adding tables and linear rules, and naming the objectives.
+ghost use mathlib.Core.Path.{_≡_};
+ghost use mathlib.Core.Bool.{_||_};
+ghost use Prim.Native.Nat.{_+_, _≤_};
+ghost use lib.Dec.{leb, ltb};
+ghost use lib.ListN.{length};
+ghost use Rattle.meaning.specs.Limits.{ruleLimit, roomLimit, objectiveLimit};
+ghost use Rattle.meaning.specs.Rules.{linear};
+ghost use Rattle.meaning.specs.Calls.{addTable, addLinear, nameObjectives, ruleOf};
+ghost use Rattle.state.specs.Layout.{padded};
+ghost use Rattle.state.specs.Holds.{Reached};
+ghost use Rattle.state.specs.Promises.{Answers, numberOf, sortSaid};
+ghost use Rattle.state.specs.Additions.{TableFits, TableTested, LinearFits, LinearTested, Extends, Followable, Followed, sortNumber};
+use crate::AfterCall;
+use crate::Answer;
+use crate::Refusal;
+use crate::Sort;
+use crate::State;
+use crate::blocks::lists_after;
+use crate::blocks::put_lists;
+use crate::checks::any_beyond;
+use crate::checks::any_large;
+use crate::checks::any_twice;
+use crate::checks::any_unknown;
+use crate::checks::beyond_bound;
+use crate::checks::tuple_twice;
+use crate::refused;
+use crate::spreading::rules_on;
+use crate::spreading::spread;
+use crate::writing::put_bytes;
+use crate::writing::put_head;
+use crate::writing::put_shifted;
+use crate::writing::shifted_bound;
+
+// One table more: its variables, and its tuples' values one after the other.
+pub fn add_table(s: State, sort: Sort, scope: &[u8], cells: &[u8]) -> AfterCall
+    requires { ⌜ Reached s ⌝ }
+    ensures { λ r. ⌜ Answers s (addTable (sortSaid sort) (now (scope .entry)) (now (cells .entry))) (numberOf (r .answer)) (r .state) ⌝ }
+{
+    let answer = table_tested(s.variables, s.depth, s.rules, s.used, scope, cells);
+    match answer {
+        Answer::Accepted => {
+            let k = s.rules;
+            AfterCall {
+                answer,
+                state: followed(with_table(s, sort, scope, cells), k),
+            }
+        }
+        Answer::Refused(_) => AfterCall { answer, state: s },
+    }
+}
+
+// The tests of a table, in document 01's order.
+fn table_tested(
+    variables: usize,
+    depth: usize,
+    rules: usize,
+    used: usize,
+    scope: &[u8],
+    cells: &[u8],
+) -> Answer
+    requires { ⌜ used ≤ roomLimit ⌝ }
+    ensures { λ r. ⌜ TableTested variables depth rules used (now (scope .entry)) (now (cells .entry)) (numberOf r) ⌝ }
+{
+    let arity = scope.len();
+    if 0 < depth {
+        return Answer::Refused(Refusal::Decided);
+    }
+    if arity == 0 || 8 < arity || cells.len() % arity != 0 {
+        return Answer::Refused(Refusal::WrongLength);
+    }
+    if any_unknown(scope, variables) {
+        return Answer::Refused(Refusal::NoSuchVariable);
+    }
+    if any_twice(scope) {
+        return Answer::Refused(Refusal::VariableTwice);
+    }
+    if any_large(cells) {
+        return Answer::Refused(Refusal::OutOfRange);
+    }
+    if tuple_twice(cells, arity) {
+        return Answer::Refused(Refusal::TupleTwice);
+    }
+    if is_full(rules, used, arity, cells.len()) {
+        return Answer::Refused(Refusal::Full);
+    }
+    Answer::Accepted
+}
+
+// Whether no rule more is held, or not with so many numbers more.
+fn is_full(rules: usize, used: usize, some: usize, more: usize) -> bool
+    requires { ⌜ (used ≤ roomLimit) × (some ≤ roomLimit) ⌝ }
+    ensures { λ r. ⌜ r ≡ (leb ruleLimit rules || ltb roomLimit (used + (some + more))) ⌝ }
+{
+    if 48 <= rules {
+        return true;
+    }
+    4096 < used + some || 4096 - used - some < more
+}
+
+// The table is written behind the rules that are there; the lists stay as they are.
+fn with_table(s: State, sort: Sort, scope: &[u8], cells: &[u8]) -> State
+    requires { ⌜ Reached s × TableFits (s .depth) (s .rules) (s .used) (now scope) (now cells) ⌝ }
+    ensures { λ r. ⌜ Extends s (ruleOf (sortSaid sort) (now (scope .entry)) (now (cells .entry))) r ⌝ }
+{
+    let mut t = s;
+    let k = t.rules;
+    let start = t.used;
+    let arity = scope.len();
+    let tuples = cells.len() / arity;
+    put_bytes(&mut t.room, start, scope);
+    put_bytes(&mut t.room, start + arity, cells);
+    put_head(
+        &mut t.heads,
+        k,
+        sort_number(sort),
+        arity,
+        start,
+        tuples as u32,
+    );
+    t.used = start + arity + cells.len();
+    t.rules = k + 1;
+    t
+}
+
+fn sort_number(sort: Sort) -> u32
+    ensures { λ r. ⌜ r ≡ sortNumber sort ⌝ }
+{
+    match sort {
+        Sort::Allow => 0,
+        Sort::Forbid => 1,
+    }
+}
+
+// One linear rule more: the sum of coefficient times value is at most the bound.
+pub fn add_linear(s: State, scope: &[u8], coefficients: &[i32], bound: i32) -> AfterCall
+    requires { ⌜ Reached s ⌝ }
+    ensures { λ r. ⌜ Answers s (addLinear (now (scope .entry)) (now (coefficients .entry)) bound) (numberOf (r .answer)) (r .state) ⌝ }
+{
+    let answer = linear_tested(
+        s.variables,
+        s.depth,
+        s.rules,
+        s.used,
+        scope,
+        coefficients,
+        bound,
+    );
+    match answer {
+        Answer::Accepted => {
+            let k = s.rules;
+            AfterCall {
+                answer,
+                state: followed(with_linear(s, scope, coefficients, bound), k),
+            }
+        }
+        Answer::Refused(_) => AfterCall { answer, state: s },
+    }
+}
+
+// The tests of a linear rule, in document 01's order.
+fn linear_tested(
+    variables: usize,
+    depth: usize,
+    rules: usize,
+    used: usize,
+    scope: &[u8],
+    coefficients: &[i32],
+    bound: i32,
+) -> Answer
+    requires { ⌜ used ≤ roomLimit ⌝ }
+    ensures { λ r. ⌜ LinearTested variables depth rules used (now (scope .entry)) (now (coefficients .entry)) bound (numberOf r) ⌝ }
+{
+    let arity = scope.len();
+    if 0 < depth {
+        return Answer::Refused(Refusal::Decided);
+    }
+    if arity == 0 || 32 < arity || coefficients.len() != arity {
+        return Answer::Refused(Refusal::WrongLength);
+    }
+    if any_unknown(scope, variables) {
+        return Answer::Refused(Refusal::NoSuchVariable);
+    }
+    if any_twice(scope) {
+        return Answer::Refused(Refusal::VariableTwice);
+    }
+    if any_beyond(coefficients) || beyond_bound(bound) {
+        return Answer::Refused(Refusal::OutOfRange);
+    }
+    if is_full(rules, used, arity, arity + 1) {
+        return Answer::Refused(Refusal::Full);
+    }
+    Answer::Accepted
+}
+
+// The linear rule is written behind the rules that are there; the lists stay as they are.
+fn with_linear(s: State, scope: &[u8], coefficients: &[i32], bound: i32) -> State
+    requires { ⌜ Reached s × LinearFits (s .depth) (s .rules) (s .used) (now scope) (now coefficients) bound ⌝ }
+    ensures { λ r. ⌜ Extends s (linear (now (scope .entry)) (now (coefficients .entry)) bound) r ⌝ }
+{
+    let mut t = s;
+    let k = t.rules;
+    let start = t.used;
+    let arity = scope.len();
+    put_bytes(&mut t.room, start, scope);
+    put_shifted(&mut t.room, start + arity, coefficients);
+    put_head(&mut t.heads, k, 2, arity, start, shifted_bound(bound));
+    t.used = start + 2 * arity + 1;
+    t.rules = k + 1;
+    t
+}
+
+// The lists follow the rule k, which is new: no decision is outstanding.
+fn followed(s: State, k: usize) -> State
+    requires { ⌜ Followable s k ⌝ }
+    ensures { λ r. ⌜ Followed s r ⌝ }
+{
+    let mut t = s;
+    let rules = t.rules;
+    let touching = rules_on(&t.heads, &t.room, rules);
+    let mut left = lists_after(&t.lists, 0);
+    spread(
+        &t.heads,
+        &t.room,
+        rules,
+        &touching,
+        values::only(k),
+        false,
+        &mut left,
+    );
+    put_lists(&mut t.lists, 0, &left);
+    t
+}
+
+// The variables whose values are compared, in this order; any named before are forgotten.
+pub fn name_objectives(s: State, variables: &[u8]) -> AfterCall
+    requires { ⌜ Reached s ⌝ }
+    ensures { λ r. ⌜ Answers s (nameObjectives (now (variables .entry))) (numberOf (r .answer)) (r .state) ⌝ }
+{
+    let count = variables.len();
+    let known = s.variables;
+    if count == 0 || 16 < count {
+        return refused(Refusal::WrongLength, s);
+    }
+    if any_unknown(variables, known) {
+        return refused(Refusal::NoSuchVariable, s);
+    }
+    let mut t = s;
+    let named = sixteen(variables);
+    t.objective = named;
+    t.objectives = count;
+    AfterCall {
+        answer: Answer::Accepted,
+        state: t,
+    }
+}
+
+// The variables in sixteen places; later places are 0.
+fn sixteen(variables: &[u8]) -> [u8; 16]
+    requires { ⌜ length (now variables) ≤ objectiveLimit ⌝ }
+    ensures { λ r. ⌜ r ≡ padded objectiveLimit (now (variables .entry)) ⌝ }
+{
+    let mut named = [0u8; 16];
+    let mut i = 0;
+    while i < variables.len() {
+        named[i] = variables[i];
+        i += 1;
+    }
+    named
+}

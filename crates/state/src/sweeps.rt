@@ -1,0 +1,54 @@
+// Filtering by every rule in the order held, until a sweep drops nothing.
+ghost use mathlib.Core.Path.{_≡_};
+ghost use lib.ListN.{length};
+ghost use Rattle.meaning.specs.Limits.{variableLimit, roomLimit};
+ghost use Rattle.state.specs.Layout.{Placed, AllPlaced, ruleAt, rulesAt};
+ghost use Rattle.state.specs.Filter.{Filtering, Sweeping, LargestIn};
+use crate::allowed;
+use crate::forbidden;
+use crate::linear::filter_linear;
+
+// Drops every value without support in the rule k. The answer is the set of the variables whose lists change.
+pub(crate) fn filter_rule(heads: &[u32], room: &[u16], k: usize, lists: &mut [u64]) -> u64
+    requires { ⌜ Placed (now heads) (now room) k ⌝ }
+    requires { ⌜ (length (now room) ≡ roomLimit) × (length (now lists) ≡ variableLimit) ⌝ }
+    ensures { λ r. ⌜ Filtering (ruleAt (now (heads .entry)) (now (room .entry)) k) (now (lists .entry)) (now (lists .exit)) r ⌝ }
+{
+    let at = 4 * k;
+    let sort = heads[at];
+    let arity = heads[at + 1] as usize;
+    let start = heads[at + 2] as usize;
+    let last = heads[at + 3] as usize;
+    match sort {
+        0 => allowed::filter(room, start, arity, last, lists),
+        1 => forbidden::filter(room, start, arity, last, lists),
+        _ => filter_linear(room, start, arity, last, lists),
+    }
+}
+
+// One sweep over the rules. The answer is 0 just where nothing was dropped.
+fn sweep(heads: &[u32], room: &[u16], rules: usize, lists: &mut [u64]) -> u64
+    requires { ⌜ AllPlaced (now heads) (now room) rules ⌝ }
+    requires { ⌜ (length (now room) ≡ roomLimit) × (length (now lists) ≡ variableLimit) ⌝ }
+    ensures { λ r. ⌜ Sweeping (rulesAt (now (heads .entry)) (now (room .entry)) rules) (now (lists .entry)) (now (lists .exit)) r ⌝ }
+{
+    let mut changed: u64 = 0;
+    let mut k = 0;
+    while k < rules {
+        changed |= filter_rule(heads, room, k, lists);
+        k += 1;
+    }
+    changed
+}
+
+// Sweeps until one drops nothing: what is left are the largest closed lists within those given.
+pub(crate) fn settle<'a>(heads: &'a [u32], room: &'a [u16], rules: usize, lists: &mut [u64])
+    requires { ⌜ AllPlaced (now heads) (now room) rules ⌝ }
+    requires { ⌜ (length (now room) ≡ roomLimit) × (length (now lists) ≡ variableLimit) ⌝ }
+    ensures { λ r. ⌜ LargestIn (rulesAt (now (heads .entry)) (now (room .entry)) rules) (now (lists .entry)) (now (lists .exit)) ⌝ }
+{
+    let mut changed: u64 = 1;
+    while changed != 0 {
+        changed = sweep(heads, room, rules, lists);
+    }
+}
