@@ -1,0 +1,9 @@
+pub mod Tests
+pub mod Sieve
+pub mod Judging
+pub mod Support
+pub mod Settled
+pub mod Running
+pub mod Best
+pub mod Table
+pub mod Unique
