@@ -19,3 +19,4 @@ pub mod Greedy
 pub mod Proper
 pub mod Histories
 pub mod Steps
+pub mod Answers

@@ -85,10 +85,10 @@ named-number ShortBuffer = refl
 named-number NoObjective = refl
 named-number Decided = refl
 
-same-refusal : (r q : Refusal) → number (tableOf r) ≡ number (tableOf q) → r ≡ q
+pub same-refusal : (r q : Refusal) → number (tableOf r) ≡ number (tableOf q) → r ≡ q
 same-refusal r q e = sym (named-number r) ∙ ap named e ∙ named-number q
 
-not-accepted : {A : Type 0} (r : Refusal) → number (tableOf r) ≡ 0 → A
+pub not-accepted : {A : Type 0} (r : Refusal) → number (tableOf r) ≡ 0 → A
 not-accepted r e = let p = number-above (tableOf r) in absurd (omega arith)
 
 pub answer-unique : (a b : Answer) → numberOf a ≡ numberOf b → a ≡ b

@@ -4,9 +4,13 @@ pub mod Tables
 pub mod Sifting
 pub mod Linear
 pub mod Spreading
+pub mod Search
+pub mod Thresholds
+pub mod Choosing
 pub mod Checks
 pub mod Writing
 pub mod Holds
 pub mod Promises
 pub mod Additions
 pub mod Runs
+pub mod Solving

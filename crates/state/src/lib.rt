@@ -13,9 +13,13 @@ mod deciding;
 mod forbidden;
 mod linear;
 mod lists;
+mod nodes;
+mod search;
+mod solving;
 mod spreading;
 mod sweeps;
 mod tables;
+mod thresholds;
 mod writing;
 
 pub use adding::add_linear;
@@ -25,6 +29,7 @@ pub use deciding::ban;
 pub use deciding::pin;
 pub use deciding::take_back;
 pub use deciding::values_left;
+pub use solving::solve;
 
 // What stands, laid out in flat arrays: counts, and zeros past them.
 pub struct State {
@@ -79,6 +84,13 @@ pub enum DecisionAnswer {
 // What a question for the values left answers.
 pub enum Left {
     Values(u64),
+    Refused(Refusal),
+}
+
+// What solving answers.
+pub enum Solved {
+    Found,
+    Inconsistent,
     Refused(Refusal),
 }
 

@@ -8,9 +8,9 @@ ghost use Rattle.state.specs.Spreading.{Touching, Noted, Due, AffectedBy
 use crate::sweeps::filter_rule;
 
 // Which rules may drop values once some lists have changed, and whether one of those lists is empty.
-struct Affected {
-    rules: u64,
-    empty: bool,
+pub(crate) struct Affected {
+    pub(crate) rules: u64,
+    pub(crate) empty: bool,
 }
 
 // For each variable the set of the rules on it.
@@ -43,7 +43,7 @@ fn note(room: &[u16], start: usize, arity: usize, k: usize, touching: &mut [u64]
 }
 
 // Goes through the changed variables.
-fn affected_by(touching: &[u64], lists: &[u64], changed: u64) -> Affected
+pub(crate) fn affected_by(touching: &[u64], lists: &[u64], changed: u64) -> Affected
     requires { ⌜ (length (now touching) ≡ variableLimit) × (length (now lists) ≡ variableLimit) × InVariables changed ⌝ }
     ensures { λ r. ⌜ AffectedBy (now (touching .entry)) (now (lists .entry)) changed r ⌝ }
 {
