@@ -35,7 +35,7 @@ part-long room at n h = omega (arith, length-take n (drop at room), length-drop 
 
 -- ---- rows
 
-row-at : (t a : ℕ) (cells : List ℕ) (k : ℕ) → k < t → getD (rows t a cells) k [] ≡ take a (drop (a * k) cells)
+pub row-at : (t a : ℕ) (cells : List ℕ) (k : ℕ) → k < t → getD (rows t a cells) k [] ≡ take a (drop (a * k) cells)
 unfolding rows
 row-at zero a cells k h = absurd (not-suc-le-zero h)
 row-at (suc t) a cells zero h = rw mul-zero refl

@@ -35,7 +35,7 @@ module _ (n : ℕ) (cells : List ℕ) (place : ℕ) (fits : place + n ≤ length
 
 -- ---- marks
 
-same-is : (u v : List ℕ) → T (same u v) → u ≡ v
+pub same-is : (u v : List ℕ) → T (same u v) → u ≡ v
 unfolding same
 same-is [] [] t = refl
 same-is [] (y ∷ v) t = absurd t
@@ -44,17 +44,17 @@ same-is (x ∷ u) (y ∷ v) t =
     ap₂ _∷_ (eqb→eq x y (and-left (eqb x y) (same u v) t)) (same-is u v (and-right (eqb x y) (same u v) t))
 
 -- the key of each tuple is marked
-abbrev Marked : List Bool → List (List ℕ) → Type 0
+abbrev pub Marked : List Bool → List (List ℕ) → Type 0
 Marked marked ts = (u : List ℕ) → List·Memᴰ u ts → getD marked (keyFrom 0 u) false ≡ true
 
-unmarked : (marked : List Bool) (ts : List (List ℕ)) (u : List ℕ) → Marked marked ts → getD marked (keyFrom 0 u) false ≡ false → some (same u) ts ≡ false
+pub unmarked : (marked : List Bool) (ts : List (List ℕ)) (u : List ℕ) → Marked marked ts → getD marked (keyFrom 0 u) false ≡ false → some (same u) ts ≡ false
 unmarked marked ts u m e = some-none (same u) ts (λ v i. differs v i (same u v) refl)
   where
     differs : (v : List ℕ) → List·Memᴰ v ts → (b : Bool) → same u v ≡ b → b ≡ false
     differs v i false q = refl
     differs v i true q = absurd (true≢false (sym (m v i) ∙ ap (λ (t : List ℕ). getD marked (keyFrom 0 t) false) (sym (same-is u v (subst T (sym q) tt))) ∙ e))
 
-marked-too : (marked : List Bool) (ts : List (List ℕ)) (u : List ℕ) → keyFrom 0 u < length marked → Marked marked ts → Marked (set marked (keyFrom 0 u) true) (u ∷ ts)
+pub marked-too : (marked : List Bool) (ts : List (List ℕ)) (u : List ℕ) → keyFrom 0 u < length marked → Marked marked ts → Marked (set marked (keyFrom 0 u) true) (u ∷ ts)
 marked-too marked ts u small m v i =
     by-cases (ℕ-discrete (keyFrom 0 v) (keyFrom 0 u))
     (λ q. ap (λ (k : ℕ). getD (set marked (keyFrom 0 u) true) k false) q ∙ getD-set-same marked (keyFrom 0 u) true false small)

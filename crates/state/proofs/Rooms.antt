@@ -24,17 +24,17 @@ joined-rows (suc t) a cells h =
     ap (λ (l : List ℕ). take a cells ++ l) (joined-rows t a (drop a cells) (omega (arith, length-drop a cells, suc-mul t a))) ∙ take-append-drop a cells
 
 -- every tuple has a cells
-abbrev Even : ℕ → List (List ℕ) → Type 0
+abbrev pub Even : ℕ → List (List ℕ) → Type 0
 Even a ts = (t : List ℕ) → List·Memᴰ t ts → length t ≡ a
 
-length-joined : (a : ℕ) (ts : List (List ℕ)) → Even a ts → length (joined ts) ≡ a * length ts
+pub length-joined : (a : ℕ) (ts : List (List ℕ)) → Even a ts → length (joined ts) ≡ a * length ts
 unfolding joined
 length-joined a [] h = omega arith
 length-joined a (t ∷ ts) h =
     let ih = length-joined a ts (λ u m. h u (List·Memᴰ·tail m)) in
     omega (arith, length-append t (joined ts), h t (List·Memᴰ·head refl), mul-suc a (length ts))
 
-rows-joined : (a : ℕ) (ts : List (List ℕ)) (rest : List ℕ) → Even a ts → rows (length ts) a (joined ts ++ rest) ≡ ts
+pub rows-joined : (a : ℕ) (ts : List (List ℕ)) (rest : List ℕ) → Even a ts → rows (length ts) a (joined ts ++ rest) ≡ ts
 unfolding joined rows
 rows-joined a [] rest h = refl
 rows-joined a (t ∷ ts) rest h =

@@ -1,0 +1,42 @@
+-- The parties to a call on a lent rota state, for `Lent.antt`'s law: the state, and the answer beside it. Assumes nothing.
+use Rattle.state.proofs.State as State
+use Rattle.state.proofs.State.Laws as State′
+use Rattle.state.proofs.DecisionAnswer as DecisionAnswer
+use Rattle.state.proofs.DecisionAnswer.Laws as DecisionAnswer′
+use Rattle.state.proofs.Answer as Answer
+use Rattle.state.proofs.Answer.Laws as Answer′
+use Rattle.state.proofs.AfterDecision as AfterDecision
+use Rattle.state.proofs.AfterCall as AfterCall
+use Rattle.desk.proofs.Lent.{Parties}
+
+-- a pin or a ban
+abbrev pub decision : Parties
+decision = record {
+  lent = State.the-type;
+  lent-laws = State′.the-field-laws;
+  lent-plain = State′.the-field-plain;
+  answer = DecisionAnswer.the-type;
+  answer-laws = DecisionAnswer′.the-field-laws;
+  answer-plain = DecisionAnswer′.the-field-plain;
+  name = AfterDecision.the-type .name;
+  After = AfterDecision.the-type .D;
+  answered = λ r. r .answer;
+  state = λ r. r .state;
+  one = AfterDecision.the-type .to-one;
+}
+
+-- a take-back
+abbrev pub take-back : Parties
+take-back = record {
+  lent = State.the-type;
+  lent-laws = State′.the-field-laws;
+  lent-plain = State′.the-field-plain;
+  answer = Answer.the-type;
+  answer-laws = Answer′.the-field-laws;
+  answer-plain = Answer′.the-field-plain;
+  name = AfterCall.the-type .name;
+  After = AfterCall.the-type .D;
+  answered = λ r. r .answer;
+  state = λ r. r .state;
+  one = AfterCall.the-type .to-one;
+}

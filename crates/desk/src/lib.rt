@@ -1,0 +1,37 @@
+// Pins, bans and take-backs on a rota state that stays with the desk program, which lends it for each call.
+ghost use Rattle.meaning.specs.Calls.{pin, ban, takeBack};
+ghost use Rattle.state.specs.Holds.{Reached};
+ghost use Rattle.state.specs.Promises.{Answers, numberOf, decisionNumber};
+use state::Answer;
+use state::DecisionAnswer;
+use state::State;
+
+// Keeps the value v of the variable x alone.
+pub fn pin(lent: &mut State, x: u8, v: u8) -> DecisionAnswer
+    requires { ⌜ Reached (now lent) ⌝ }
+    ensures { λ r. ⌜ Answers (now (lent .entry)) (pin x v) (decisionNumber r) (now (lent .exit)) ⌝ }
+{
+    let after = state::pin(*lent, x, v);
+    *lent = after.state;
+    after.answer
+}
+
+// Removes the value v of the variable x.
+pub fn ban(lent: &mut State, x: u8, v: u8) -> DecisionAnswer
+    requires { ⌜ Reached (now lent) ⌝ }
+    ensures { λ r. ⌜ Answers (now (lent .entry)) (ban x v) (decisionNumber r) (now (lent .exit)) ⌝ }
+{
+    let after = state::ban(*lent, x, v);
+    *lent = after.state;
+    after.answer
+}
+
+// Keeps the first k decisions and drops the later ones.
+pub fn take_back(lent: &mut State, k: usize) -> Answer
+    requires { ⌜ Reached (now lent) ⌝ }
+    ensures { λ r. ⌜ Answers (now (lent .entry)) (takeBack k) (numberOf r) (now (lent .exit)) ⌝ }
+{
+    let after = state::take_back(*lent, k);
+    *lent = after.state;
+    after.answer
+}

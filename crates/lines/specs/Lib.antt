@@ -1,0 +1,3 @@
+-- The definitions that the contracts of `lines` cite.
+pub mod Lines
+pub mod Writing

@@ -1,0 +1,27 @@
+-- `text::tokens::read_number` meets its contract. Assumes nothing.
+use mathlib.Core.Path.{ap}
+use Prim.Native.Nat.{_^_}
+use native.Mathlib.Omega.{arith}
+use borrow.Author.Needs.{needs}
+use lib.ListN.{length}
+use Rattle.text.specs.Tokens.{numberAt}
+use Rattle.text.proofs.Places.{end-fits}
+use Rattle.text.proofs.tokens.read_number.Statement.{statement}
+use Rattle.text.proofs.tokens.read_number.Tie as tie
+
+skip-blanks-requires : tie.Need-skip-blanks-requires
+skip-blanks-requires c κs = search needs
+
+token-at-requires : tie.Need-token-at-requires
+token-at-requires c κs = search needs
+
+number-in-requires : tie.Need-number-in-requires
+number-in-requires c κs =
+    omega (arith, ap length (c .token-at .ensures), end-fits (c .before .before .before .args .text .now) (c .before .skip-blanks .result) (2 ^ 64) (search needs) (search needs))
+
+returns : tie.Need-returns
+unfolding numberAt
+returns c = cc
+
+pub read-number-spec : {M : Type 1} → statement M
+read-number-spec = tie.close (tie.spec skip-blanks-requires token-at-requires number-in-requires returns)

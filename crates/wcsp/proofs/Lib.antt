@@ -1,0 +1,10 @@
+-- The laws behind the proofs of `wcsp`.
+pub mod Adding
+pub mod Coming
+pub mod Heading
+pub mod Heaping
+pub mod Judging
+pub mod Several
+pub mod Tabling
+pub mod Tupling
+pub mod Wholes

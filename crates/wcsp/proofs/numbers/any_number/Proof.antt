@@ -1,0 +1,33 @@
+use mathlib.Core.Path.{_≡_, refl, sym, _∙_}
+use mathlib.Core.Logic.{inl, inr}
+use borrow.Author.Tests.{lt-ltb, le-ltb, le-leb, lt-leb}
+use Rattle.wcsp.proofs.Judging.{malformed-step, refused-step, passed-step}
+use borrow.Author.Needs.{needs}
+use Rattle.wcsp.proofs.numbers.any_number.Statement.{statement}
+use Rattle.wcsp.proofs.numbers.any_number.Tie as tie
+use Rattle.wcsp.proofs.numbers.any_number.Reads as reads
+use Rattle.wcsp.proofs.numbers.any_number.Lts as lts
+use Rattle.text.proofs.read_number.Reads as read-number-reads
+
+read-number-requires : tie.Need-read-number-requires
+read-number-requires c κs = search needs
+
+enum-known-read : tie.Need-enum-known-read
+enum-known-read c = search needs
+
+enum-known-read-2 : tie.Need-enum-known-read-2
+enum-known-read-2 c = search needs
+
+cast-t9 : tie.Need-cast-t9
+cast-t9 c = search needs
+
+returns : tie.Need-returns
+returns c = malformed-step _ _ _ (sym (c .before .before .before .read-number .ensures) ∙ c .before .read .given .1)
+
+returns-2 : tie.Need-returns-2
+returns-2 c = passed-step _ _ _ (sym (c .before .before .before .read-number .ensures) ∙ c .before .read2 .given .1) refl
+
+pub any-number-spec : {M : Type 1} → statement M
+any-number-spec =
+    tie.close
+    (tie.spec read-number-requires enum-known-read enum-known-read-2 cast-t9 returns returns-2)

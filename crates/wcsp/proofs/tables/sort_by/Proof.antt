@@ -1,0 +1,19 @@
+use mathlib.Core.Path.{_≡_, sym, ap}
+use mathlib.Core.Bool.{Bool, cond}
+use lib.Dec.{eqb}
+use borrow.Author.Tests.{eq-eqb, ne-eqb}
+use Rattle.meaning.specs.Calls.{Sort, allow, forbid}
+use borrow.Author.Needs.{needs}
+use Rattle.wcsp.proofs.tables.sort_by.Statement.{statement}
+use Rattle.wcsp.proofs.tables.sort_by.Tie as tie
+use Rattle.wcsp.proofs.tables.sort_by.Reads as reads
+use Rattle.wcsp.proofs.tables.sort_by.Lts as lts
+
+returns : tie.Need-returns
+returns c = ap (λ (b : Bool). cond b forbid allow) (sym (eq-eqb (c .before .args .default) 0 (c .if1 .taken)))
+
+returns-2 : tie.Need-returns-2
+returns-2 c = ap (λ (b : Bool). cond b forbid allow) (sym (ne-eqb (c .before .args .default) 0 (c .if1 .left)))
+
+pub sort-by-spec : {M : Type 1} → statement M
+sort-by-spec = tie.close (tie.spec returns returns-2)

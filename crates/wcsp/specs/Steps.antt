@@ -1,0 +1,76 @@
+-- What a step of the reader's code says of the reading that it stands for.
+use mathlib.Core.Path.{_≡_}
+use mathlib.Core.List.{List, List·Memᴰ}
+use Prim.Native.Nat.{ℕ, _+_, _*_, _≤_, _<_}
+use lib.ListN.{length, getD, take, drop}
+use Rattle.meaning.specs.Limits.{variableLimit, valueLimit, ruleLimit, roomLimit, arityLimit}
+use Rattle.meaning.specs.Refusals as Numbers
+use Rattle.state.specs.declared.Refusal.{Refusal}
+use Rattle.meaning.specs.Calls.{Sort}
+use Rattle.state.specs.Promises.{tableOf, sortSaid}
+use Rattle.state.specs.Layout.{joined}
+use Rattle.wcsp.specs.declared.Step.{Step}
+use Rattle.wcsp.specs.declared.Step.the-variants.{Fault, Read}
+use Rattle.wcsp.specs.declared.tables.Table as Kept
+use Rattle.wcsp.specs.Reading.{Reading, fault, got}
+use Rattle.wcsp.specs.Files.{Header, Table, taken, tuple, table}
+
+-- document 01's number
+abbrev pub numberOf : Refusal → ℕ
+numberOf r = Numbers.number (tableOf r)
+
+-- the step is the reading's fault; or it goes on where the reading does, and what was read is so kept
+abbrev pub Told : {A : Type 0} → Reading A → (A → ℕ → Type 0) → Step → Type 0
+Told reading Kept (Fault r at) = reading ≡ fault (numberOf r) at
+Told {A} reading Kept (Read v place) = (x : A) × (reading ≡ got x place) × Kept x v
+
+pub record Comes {A : Type 0} (reading : Reading A) (Kept : A → ℕ → Type 0) (step : Step) : Type 0 where
+  pub told : Told reading Kept step
+
+abbrev pub ComesTo : Reading ℕ → Step → Type 0
+ComesTo reading step = Comes reading (λ x v. x ≡ v) step
+
+-- every number of the list is below k
+abbrev pub Under : ℕ → List ℕ → Type 0
+Under k l = (i : ℕ) → getD l i 0 < k
+
+-- the first n numbers of the list are all that it has; the others are 0
+abbrev pub Whole : ℕ → List ℕ → Type 0
+Whole n l = (x : ℕ) → getD l x 0 ≡ getD (take n l) x 0
+
+-- what the first line says is within the limits
+abbrev pub Bounded : ℕ → ℕ → ℕ → Type 0
+Bounded variables largest constraints = (variables ≤ variableLimit) × (largest ≤ valueLimit) × (constraints ≤ ruleLimit)
+
+abbrev pub Says : Header → ℕ → ℕ → ℕ → Type 0
+Says h variables largest constraints = (h .variables ≡ variables) × (h .largest ≡ largest) × (h .constraints ≡ constraints)
+
+-- cells were written from a start on
+pub record Behind (start : ℕ) (before after : List ℕ) : Type 0 where
+  pub long : length after ≡ length before
+  pub kept : take start after ≡ take start before
+
+-- so many tuples of a values each lie in the first cells
+pub record Filled (a count : ℕ) (tuples : List (List ℕ)) (cells : List ℕ) : Type 0 where
+  pub many : length tuples ≡ count
+  pub even : (t : List ℕ) → List·Memᴰ t tuples → length t ≡ a
+  pub cells-are : take (count * a) cells ≡ joined tuples
+
+-- a tuple of a values behind the first `count` in the cells, whatever tuples those are
+pub record NextTuple (text sizes scope : List ℕ) (a default at count : ℕ) (before after : List ℕ) (step : Step) : Type 0 where
+  pub behind : Behind (count * a) before after
+  pub comes : (ts : List (List ℕ)) → Filled a count ts before → Comes (tuple text sizes scope default ts at) (λ t v. t ≡ take a (drop (count * a) after)) step
+
+-- a table as the reader keeps it, where some of the room was used before
+pub record TableKept (used : ℕ) (t : Table) (k : Kept.Table) (cells : List ℕ) : Type 0 where
+  pub sort-is : t .sort ≡ sortSaid (k .sort)
+  pub scope-is : t .scope ≡ take (k .arity) (k .scope)
+  pub long : length (k .scope) ≡ arityLimit
+  pub arity-fits : k .arity ≤ arityLimit
+  pub cells-are : joined (t .tuples) ≡ take (k .filled) cells
+  pub takes : length (t .scope) + length (t .scope) * length (t .tuples) ≡ k .arity + k .filled
+  pub room : used + (k .arity + k .filled) ≤ roomLimit
+
+-- the next table, whatever tables use the room so far
+abbrev pub NextTable : List ℕ → List ℕ → ℕ → ℕ → Kept.Table → List ℕ → Type 0
+NextTable text sizes used at k cells = (ts : List Table) → taken ts ≡ used → Comes (table text sizes ts at) (λ t v. TableKept used t k cells) (k .step)

@@ -1,0 +1,50 @@
+// Reading wcsp files (document 01): left to right, to the first fault or to the state that the file's calls leave.
+ghost use Rattle.wcsp.specs.Promises.{Reads};
+use state::Refusal;
+use state::State;
+
+mod header;
+mod loading;
+mod numbers;
+mod scopes;
+mod sizes;
+mod tables;
+mod tuples;
+
+use loading::load;
+
+// How far the reading came: a fault, at a byte; or a number, and the place after it.
+pub(crate) enum Step {
+    Fault(Refusal, usize),
+    Read(usize, usize),
+}
+
+// What a file comes to: accepted, or refused at a byte.
+pub enum Outcome {
+    Accepted,
+    Refused(Refusal, usize),
+}
+
+pub struct Loaded {
+    pub outcome: Outcome,
+    pub state: State,
+}
+
+// Reads a file of any length.
+pub fn read(text: &[u8]) -> Loaded
+    ensures { λ r. ⌜ Reads (now (text .entry)) r ⌝ }
+{
+    let attempt = load(text);
+    let step = attempt.step;
+    let state = attempt.state;
+    match step {
+        Step::Fault(refusal, at) => Loaded {
+            outcome: Outcome::Refused(refusal, at),
+            state: state::new(),
+        },
+        Step::Read(_, _) => Loaded {
+            outcome: Outcome::Accepted,
+            state,
+        },
+    }
+}
