@@ -2,6 +2,7 @@
 use mathlib.Core.Path.{_≡_}
 use mathlib.Core.List.{List}
 use Prim.Native.Nat.{ℕ}
+use lib.ListN.{length}
 use Rattle.meaning.specs.Standing.{nothing}
 use Rattle.state.specs.declared.State.{State}
 use Rattle.state.specs.Holds.{Holds}
@@ -19,7 +20,7 @@ said Accepted = (0, 0)
 said (Refused r at) = (numberOf r, at)
 
 -- A refused file gives a new, empty state with the number and the byte offset; an accepted one the state that adding its variables,
--- then its tables, in file order to a new state gives.
+-- then its tables, in file order to a new state gives, and says how many variables there are.
 pub record Reads (text : List ℕ) (r : Loaded) : Type 0 where
-  pub refused : (number at : ℕ) → file text ≡ fault number at → (said (r .outcome) ≡ (number, at)) × Holds (r .state) nothing
-  pub accepted : (f : File) (place : ℕ) → file text ≡ got f place → (said (r .outcome) ≡ (0, 0)) × Run (calls f) (r .state)
+  pub refused : (number at : ℕ) → file text ≡ fault number at → (said (r .outcome) ≡ (number, at)) × (r .variables ≡ 0) × Holds (r .state) nothing
+  pub accepted : (f : File) (place : ℕ) → file text ≡ got f place → (said (r .outcome) ≡ (0, 0)) × (r .variables ≡ length (f .sizes)) × Run (calls f) (r .state)

@@ -25,8 +25,10 @@ pub enum Outcome {
     Refused(Refusal, usize),
 }
 
+// The outcome, how many variables the file has, and the state.
 pub struct Loaded {
     pub outcome: Outcome,
+    pub variables: usize,
     pub state: State,
 }
 
@@ -36,14 +38,17 @@ pub fn read(text: &[u8]) -> Loaded
 {
     let attempt = load(text);
     let step = attempt.step;
+    let variables = attempt.variables;
     let state = attempt.state;
     match step {
         Step::Fault(refusal, at) => Loaded {
             outcome: Outcome::Refused(refusal, at),
+            variables: 0,
             state: state::new(),
         },
         Step::Read(_, _) => Loaded {
             outcome: Outcome::Accepted,
+            variables,
             state,
         },
     }

@@ -2,7 +2,7 @@
 ghost use mathlib.Core.Path.{_≡_};
 ghost use mathlib.Core.List.{[]};
 ghost use Prim.Native.Nat.{_≤_};
-ghost use lib.ListN.{take};
+ghost use lib.ListN.{length, take};
 ghost use Rattle.meaning.specs.Limits.{variableLimit};
 ghost use Rattle.state.specs.Runs.{Run};
 ghost use Rattle.wcsp.specs.Reading.{ended};
@@ -11,12 +11,18 @@ ghost use Rattle.wcsp.specs.Steps.{Comes, ComesTo, Under};
 use crate::Step;
 use crate::header::read_header;
 use crate::sizes::read_sizes;
-use crate::tables::Added;
 use crate::tables::read_tables;
 use meaning::VARIABLES;
 use state::Refusal;
 use state::State;
 use text::skip_blanks;
+
+// How far the reading came; the number of variables and the state count where it came to the end.
+pub(crate) struct Attempt {
+    pub(crate) step: Step,
+    pub(crate) variables: usize,
+    pub(crate) state: State,
+}
 
 // A new state with n variables of these sizes; a size s means the values 0 to s - 1.
 fn declared(sizes: [u8; VARIABLES], n: usize) -> State
@@ -45,18 +51,19 @@ fn read_end(text: &[u8], at: usize) -> Step
     Step::Read(0, at)
 }
 
-fn stopped(step: Step) -> Added
+fn stopped(step: Step) -> Attempt
     ensures { λ r. ⌜ r .step ≡ step ⌝ }
 {
-    Added {
+    Attempt {
         step,
+        variables: 0,
         state: state::new(),
     }
 }
 
 // The whole file: its first fault, or the state that its calls leave.
-pub(crate) fn load(text: &[u8]) -> Added
-    ensures { λ r. ⌜ Comes (file (now (text .entry))) (λ f v. Run (calls f) (r .state)) (r .step) ⌝ }
+pub(crate) fn load(text: &[u8]) -> Attempt
+    ensures { λ r. ⌜ Comes (file (now (text .entry))) (λ f v. (length (f .sizes) ≡ r .variables) × Run (calls f) (r .state)) (r .step) ⌝ }
 {
     let header = read_header(text);
     let first = header.step;
@@ -84,5 +91,9 @@ pub(crate) fn load(text: &[u8]) -> Added
     };
     let step = read_end(text, to_end);
     let state = added.state;
-    Added { step, state }
+    Attempt {
+        step,
+        variables: n,
+        state,
+    }
 }

@@ -1,7 +1,7 @@
 // The domain sizes of a file.
 ghost use mathlib.Core.Path.{_≡_};
 ghost use Prim.Native.Nat.{_≤_};
-ghost use lib.ListN.{take};
+ghost use lib.ListN.{length, take};
 ghost use Rattle.meaning.specs.Limits.{variableLimit, valueLimit};
 ghost use Rattle.wcsp.specs.Reading.{several};
 ghost use Rattle.wcsp.specs.Files.{sizeTests};
@@ -20,7 +20,7 @@ pub(crate) struct Sizes {
 // The sizes of n variables, each from 1 to the largest.
 pub(crate) fn read_sizes(text: &[u8], at: usize, largest: usize, n: usize) -> Sizes
     requires { ⌜ (largest ≤ valueLimit) × (n ≤ variableLimit) ⌝ }
-    ensures { λ r. ⌜ Under 65 (r .sizes) × Comes (several (now (text .entry)) (sizeTests largest) n at) (λ ss v. (ss ≡ take n (r .sizes)) × Whole n (r .sizes)) (r .step) ⌝ }
+    ensures { λ r. ⌜ Under 65 (r .sizes) × (length (r .sizes) ≡ variableLimit) × Comes (several (now (text .entry)) (sizeTests largest) n at) (λ ss v. (ss ≡ take n (r .sizes)) × Whole n (r .sizes)) (r .step) ⌝ }
 {
     let mut sizes = [0u8; VARIABLES];
     let mut place = at;

@@ -23,7 +23,7 @@ returns : tie.Need-returns
 returns c = reads-none _ (c .before .before .before .before .before .load .ensures) _ _ _ (c .before .before .step .given .1) (c .new .ensures)
 
 returns-2 : tie.Need-returns-2
-returns-2 c = reads-file _ _ (c .before .before .before .load .ensures) (c .enum-told .given .1)
+returns-2 c = reads-file _ _ _ (c .before .before .before .load .ensures) (c .enum-told .given .1)
 
 pub read-spec : {M : Type 1} → statement M
 read-spec =

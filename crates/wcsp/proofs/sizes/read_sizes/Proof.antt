@@ -38,7 +38,7 @@ enum-told : tie.Need-enum-told Inv-loop μ-loop
 enum-told c = search needs
 
 returns : tie.Need-returns Inv-loop μ-loop
-returns c = let a = c .before .before .before .before .before .before .args in let l = c .before .before .before .before .loop in (l .inv .1, fault-there _ (l .inv .2) (c .before .before .before .loop-test .taken) (c .before .before .number-within .ensures) (c .enum-told .given .1))
+returns c = let a = c .before .before .before .before .before .before .args in let l = c .before .before .before .before .loop in (l .inv .1, l .inv .0, fault-there _ (l .inv .2) (c .before .before .before .loop-test .taken) (c .before .before .number-within .ensures) (c .enum-told .given .1))
 
 cast-sizes : tie.Need-cast-sizes Inv-loop μ-loop
 cast-sizes c = let a = c .before .before .before .before .before .before .before .args in let l = c .before .before .before .before .before .loop in let small : c .before .step .given .0 .0 ≤ a .largest = in-range _ _ _ _ _ _ (number-is (c .before .before .before .number-within .ensures) (c .before .step .given .1)) .1 in omega (arith, small)
@@ -56,7 +56,7 @@ loop-again : tie.Need-loop-again Inv-loop μ-loop
 loop-again c = let a = c .before .before .before .before .before .before .before .args in let l = c .before .before .before .before .before .loop in let v = c .before .step .given .0 .0 in let small : c .before .step .given .0 .0 ≤ a .largest = in-range _ _ _ _ _ _ (number-is (c .before .before .before .number-within .ensures) (c .before .step .given .1)) .1 in (length-set (l .sizes) (l .i) v ∙ l .inv .0, under-set (l .sizes) (l .i) v (l .inv .1) (omega (arith, small)) (search needs), next-number _ _ (l .inv .2) (c .before .before .before .before .loop-test .taken) (c .before .before .before .number-within .ensures) _ (c .before .step .given .1) (put-next (l .sizes) (l .i) v (search needs)), zero-set (l .sizes) (l .i) v (l .inv .3))
 
 returns-2 : tie.Need-returns-2 Inv-loop μ-loop
-returns-2 c = let a = c .before .before .before .args in let l = c .before .loop in let all : l .i ≡ a .n = omega (arith, l .inv .2 .few, c .loop-test .left) in (l .inv .1, all-read _ (l .inv .2) _ (c .loop-test .left) (ap (λ (k : ℕ). take k (l .sizes)) all, zeros-behind (l .sizes) (a .n) (λ x h. l .inv .3 x (omega (arith, all, h)))))
+returns-2 c = let a = c .before .before .before .args in let l = c .before .loop in let all : l .i ≡ a .n = omega (arith, l .inv .2 .few, c .loop-test .left) in (l .inv .1, l .inv .0, all-read _ (l .inv .2) _ (c .loop-test .left) (ap (λ (k : ℕ). take k (l .sizes)) all, zeros-behind (l .sizes) (a .n) (λ x h. l .inv .3 x (omega (arith, all, h)))))
 
 pub read-sizes-spec : {M : Type 1} → statement M
 read-sizes-spec =
