@@ -4,7 +4,9 @@ pub mod Coming
 pub mod Heading
 pub mod Heaping
 pub mod Judging
+pub mod Readings
 pub mod Several
+pub mod Sized
 pub mod Tabling
 pub mod Tupling
 pub mod Wholes

@@ -3,11 +3,14 @@ use mathlib.Core.Path.{_≡_, refl, sym, ap, _∙_, subst, subst⁻¹}
 use mathlib.Core.Bool.{Bool, true, false, true≢false}
 use mathlib.Core.List.{List, []}
 use Prim.Native.Nat.{ℕ, _≤_}
+use native.Mathlib.Omega.{arith}
 use lib.ListN.{length, take}
 use lib.Seq.{length-take-le}
 use Rattle.state.specs.declared.Refusal.{Refusal}
 use Rattle.meaning.specs.Standing.{nothing}
 use Rattle.state.specs.declared.State.{State}
+use Rattle.meaning.proofs.Proper.{number-above}
+use Rattle.state.specs.Promises.{tableOf}
 use Rattle.state.specs.Holds.{Holds}
 use Rattle.state.specs.Runs.{Run}
 use Rattle.wcsp.specs.declared.Step.{Step}
@@ -17,8 +20,9 @@ use Rattle.wcsp.specs.declared.Outcome.{Outcome}
 use Rattle.wcsp.specs.declared.Outcome.the-variants.{Accepted, Refused}
 use Rattle.wcsp.specs.Reading.{Reading, fault, got, several, times, ended}
 use Rattle.wcsp.specs.Files.{Header, File, header, sizeTests, table, file, calls, variableCalls, tableCalls}
-use Rattle.wcsp.specs.Steps.{Comes, ComesTo, Says, Whole}
+use Rattle.wcsp.specs.Steps.{numberOf, Comes, ComesTo, Says, Whole}
 use Rattle.wcsp.specs.Promises.{Reads}
+use Rattle.wcsp.proofs.Readings.{faultOf, isFault, whatOr}
 use Rattle.wcsp.proofs.Coming.{comes-by, stops, fault-is, went-on, goes-on, last-one}
 
 abbrev Kept : ℕ → State → File → ℕ → Type 0
@@ -68,31 +72,18 @@ module _ (text : List ℕ) where
               let (ts, q3, run) = goes-on (tables-came h ss says (k .0)) _ e3 in
               comes-by (q ∙ q2 ∙ q3) (last-one c4 (λ x. record { sizes = ss; tables = ts }) (λ x v m. (ap length (k .0) ∙ length-take-le n sizes enough, run)))
 
--- ---- a reading is a fault or something read, never both, and never two
-
-faultOf : {A : Type 0} → Reading A → ℕ × ℕ
-faultOf (fault number at) = (number, at)
-faultOf (got x place) = (0, 0)
-
-isFault : {A : Type 0} → Reading A → Bool
-isFault (fault number at) = true
-isFault (got x place) = false
-
-whatOr : {A : Type 0} → A → Reading A → A
-whatOr other (fault number at) = other
-whatOr other (got x place) = x
+-- ---- the outcome
 
 module _ (text : List ℕ) {step : Step} {K : File → ℕ → Type 0} (came : Comes (file text) K step) where
   pub reads-none : (r : Refusal) (at : ℕ) (state : State) → step ≡ Fault r at → Holds state nothing → Reads text (record { outcome = Refused r at; variables = 0; state = state })
-  unfolding faultOf isFault
   reads-none r at state e hold = record {
     refused = λ number spot q. (ap faultOf (sym (fault-is came e) ∙ q), refl, hold);
     accepted = λ f place q. absurd (true≢false (ap isFault (sym (fault-is came e) ∙ q)));
+    only = λ q. let none : numberOf r ≡ 0 = ap (λ (x : ℕ × ℕ). x .0) q in absurd (omega (arith, none, number-above (tableOf r)));
   }
 
 pub reads-file : (text : List ℕ) {step : Step} (n : ℕ) (state : State) {v place : ℕ} → Comes (file text) (Kept n state) step → step ≡ Read v place
     → Reads text (record { outcome = Accepted; variables = n; state = state })
-unfolding isFault whatOr
 reads-file text n state came e =
     let (f, q, kept) = went-on came e in
     record {
@@ -100,4 +91,5 @@ reads-file text n state came e =
       accepted = λ g spot p.
           let same : f ≡ g = ap (whatOr f) (sym q ∙ p) in
           (refl, sym (kept .0) ∙ ap (λ (x : File). length (x .sizes)) same, subst (λ (x : File). Run (calls x) state) same (kept .1));
+      only = λ p. (f, _, q);
     }

@@ -24,3 +24,4 @@ said (Refused r at) = (numberOf r, at)
 pub record Reads (text : List ℕ) (r : Loaded) : Type 0 where
   pub refused : (number at : ℕ) → file text ≡ fault number at → (said (r .outcome) ≡ (number, at)) × (r .variables ≡ 0) × Holds (r .state) nothing
   pub accepted : (f : File) (place : ℕ) → file text ≡ got f place → (said (r .outcome) ≡ (0, 0)) × (r .variables ≡ length (f .sizes)) × Run (calls f) (r .state)
+  pub only : said (r .outcome) ≡ (0, 0) → (f : File) × (place : ℕ) × (file text ≡ got f place)

@@ -1,0 +1,4 @@
+-- The laws behind the proofs of `reply`.
+pub mod Naming
+pub mod Replying
+pub mod Telling

@@ -1,0 +1,24 @@
+use native.Mathlib.Omega.{arith}
+use Rattle.lines.proofs.Putting.{written-fits}
+use borrow.Author.Needs.{needs}
+use Rattle.reply.proofs.answer.Statement.{statement}
+use Rattle.reply.proofs.answer.Tie as tie
+use Rattle.reply.proofs.answer.Reads as reads
+use Rattle.reply.proofs.answer.Lts as lts
+use Rattle.lines.proofs.write_too_long.Reads as write-too-long-reads
+use Rattle.reply.proofs.reply.Reads as reply-reads
+
+write-too-long-requires : tie.Need-write-too-long-requires
+write-too-long-requires c κs = search needs
+
+returns : tie.Need-returns
+returns c = record { fits = written-fits (c .write-too-long .ensures); long = λ h. c .write-too-long .ensures; short = λ h. absurd (let long = c .before .before .if1 .taken in omega (arith, long, h)) }
+
+reply-requires : tie.Need-reply-requires
+reply-requires c κs = search needs
+
+returns-2 : tie.Need-returns-2
+returns-2 c = record { fits = c .reply .ensures .fits; long = λ h. absurd (let short = c .before .before .if1 .left in omega (arith, short, h)); short = λ h. c .reply .ensures }
+
+pub answer-spec : {M : Type 1} → statement M
+answer-spec = tie.close (tie.spec write-too-long-requires returns reply-requires returns-2)

@@ -1,0 +1,47 @@
+use Rattle.reply.proofs.Replying.{refused-replies, may-solve, accepted-replies}
+use borrow.Author.Needs.{needs}
+use Rattle.reply.proofs.reply.Statement.{statement}
+use Rattle.reply.proofs.reply.Tie as tie
+use Rattle.reply.proofs.reply.Reads as reads
+use Rattle.reply.proofs.reply.Lts as lts
+use Rattle.lines.proofs.write_refused.Reads as write-refused-reads
+use Rattle.reply.proofs.number_of.Reads as number-of-reads
+use Rattle.reply.proofs.write_solved.Reads as write-solved-reads
+use Rattle.wcsp.proofs.read.Reads as read-reads
+
+read-requires : tie.Need-read-requires
+read-requires c κs = search needs
+
+enum-known-outcome : tie.Need-enum-known-outcome
+enum-known-outcome c = search needs
+
+number-of-requires : tie.Need-number-of-requires
+number-of-requires c κs = search needs
+
+write-refused-requires : tie.Need-write-refused-requires
+write-refused-requires c κs = search needs
+
+enum-told : tie.Need-enum-told
+enum-told c = search needs
+
+write-solved-requires : tie.Need-write-solved-requires
+write-solved-requires c κs = may-solve _ _ (c .before .before .before .before .read .ensures) (c .before .enum-told .given .1)
+
+returns : tie.Need-returns
+returns c = refused-replies _ _ (c .before .before .before .before .before .before .before .read .ensures) (c .before .before .before .before .outcome .given .1) (c .before .before .number-of .ensures) (c .write-refused .ensures)
+
+returns-2 : tie.Need-returns-2
+returns-2 c = accepted-replies _ _ (c .before .before .before .before .before .read .ensures) (c .before .before .enum-told .given .1) (c .write-solved .ensures)
+
+pub reply-spec : {M : Type 1} → statement M
+reply-spec =
+    tie.close
+    (tie.spec
+    read-requires
+    enum-known-outcome
+    number-of-requires
+    write-refused-requires
+    enum-told
+    write-solved-requires
+    returns
+    returns-2)

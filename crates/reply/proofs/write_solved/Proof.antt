@@ -1,0 +1,80 @@
+use Rattle.lines.proofs.Putting.{written-fits}
+use Rattle.reply.specs.Replies.{upwards}
+use lib.ListN.{take}
+use mathlib.Core.Path.{_≡_, sym}
+use native.Mathlib.Omega.{arith}
+use lib.Seq.{length-take-le}
+use Rattle.meaning.specs.Calls.{nameObjectives}
+use Rattle.state.proofs.Runs.{reached-after}
+use Rattle.reply.proofs.Telling.{told, found-tells, none-tells, never-refused}
+use borrow.Author.Needs.{needs}
+use Rattle.reply.proofs.write_solved.Statement.{statement}
+use Rattle.reply.proofs.write_solved.Tie as tie
+use Rattle.reply.proofs.write_solved.Reads as reads
+use Rattle.reply.proofs.write_solved.Lts as lts
+use Rattle.lines.proofs.write_inconsistent.Reads as write-inconsistent-reads
+use Rattle.reply.proofs.objective_count.Reads as objective-count-reads
+use Rattle.reply.proofs.write_rota.Reads as write-rota-reads
+use Rattle.state.proofs.name_objectives.Reads as name-objectives-reads
+use Rattle.state.proofs.solve.Reads as solve-reads
+
+objective-count-requires : tie.Need-objective-count-requires
+objective-count-requires c κs = search needs
+
+array-share-prefix-first : tie.Need-array-share-prefix-first
+array-share-prefix-first c = search needs
+
+slice-aggregate-name-objectives : tie.Need-slice-aggregate-name-objectives
+slice-aggregate-name-objectives c = sym (length-take-le (c .before .objective-count .result) _ (omega (arith, (c .before .objective-count .ensures))))
+
+name-objectives-requires : tie.Need-name-objectives-requires
+name-objectives-requires c κs = search needs
+
+slice-aggregate-solve : tie.Need-slice-aggregate-solve
+slice-aggregate-solve c = search needs
+
+solve-requires : tie.Need-solve-requires
+solve-requires c κs = reached-after (nameObjectives (take (c .before .before .before .before .objective-count .result) (upwards 0 16))) (c .before .before .before .before .before .pre .0) (c .before .before .name-objectives .ensures)
+
+enum-told : tie.Need-enum-told
+enum-told c = search needs
+
+write-rota-requires : tie.Need-write-rota-requires
+write-rota-requires c κs = search needs
+
+enum-told-2 : tie.Need-enum-told-2
+enum-told-2 c = search needs
+
+write-inconsistent-requires : tie.Need-write-inconsistent-requires
+write-inconsistent-requires c κs = search needs
+
+enum-told-3 : tie.Need-enum-told-3
+enum-told-3 c = search needs
+
+returns : tie.Need-returns
+returns c = (λ h w run l d o. let a = c .before .before .before .before .before .before .before .before .before .before .before .args in let p = c .before .before .before .before .before .before .before .before .before .before .before .pre in let s = told _ _ (a .n) _ _ (c .before .before .before .before .before .before .before .before .before .before .objective-count .ensures) (c .before .before .before .before .before .before .before .before .name-objectives .ensures) (c .before .before .before .before .before .solve .ensures) (c .before .before .enum-told .given .1) h w run l in found-tells w (a .n) d o s (c .write-rota .ensures), written-fits (c .write-rota .ensures))
+
+returns-2 : tie.Need-returns-2
+returns-2 c = (λ h w run l d o. let a = c .before .before .before .before .before .before .before .before .before .before .before .args in let p = c .before .before .before .before .before .before .before .before .before .before .before .pre in let s = told _ _ (a .n) _ _ (c .before .before .before .before .before .before .before .before .before .before .objective-count .ensures) (c .before .before .before .before .before .before .before .before .name-objectives .ensures) (c .before .before .before .before .before .solve .ensures) (c .before .before .enum-told2 .given .1) h w run l in none-tells w (a .n) d o s (c .write-inconsistent .ensures), written-fits (c .write-inconsistent .ensures))
+
+returns-3 : tie.Need-returns-3
+returns-3 c = (λ h w run l d o. let a = c .before .before .before .before .before .before .before .before .before .args in let p = c .before .before .before .before .before .before .before .before .before .pre in let s = told _ _ (a .n) _ _ (c .before .before .before .before .before .before .before .before .objective-count .ensures) (c .before .before .before .before .before .before .name-objectives .ensures) (c .before .before .before .solve .ensures) (c .enum-told3 .given .1) h w run l in never-refused w (a .n) d o _ (p .1) (omega (arith, p .2)) s, omega arith)
+
+pub write-solved-spec : {M : Type 1} → statement M
+write-solved-spec =
+    tie.close
+    (tie.spec
+    objective-count-requires
+    array-share-prefix-first
+    slice-aggregate-name-objectives
+    name-objectives-requires
+    slice-aggregate-solve
+    solve-requires
+    enum-told
+    write-rota-requires
+    enum-told-2
+    write-inconsistent-requires
+    enum-told-3
+    returns
+    returns-2
+    returns-3)
