@@ -1,3 +1,6 @@
+-- `rota::main` meets its contract: each part that it lends is as long as it says. Assumes nothing.
+use mathlib.Core.Path.{sym}
+use lib.Seq.{length-take-le}
 use borrow.Author.Needs.{needs}
 use Rattle.rota.proofs.main.Statement.{statement}
 use Rattle.rota.proofs.main.Tie as tie
@@ -8,43 +11,33 @@ use Rattle.io.proofs.write_all.Reads as write-all-reads
 use Rattle.reply.proofs.answer.Reads as answer-reads
 use Rattle.rota.proofs.room.Reads as room-reads
 
--- src/main.rt:14:20
 room-requires : tie.Need-room-requires
 room-requires c κs = search needs
 
--- src/main.rt:15:52
 slice-aggregate-read-full : tie.Need-slice-aggregate-read-full
 slice-aggregate-read-full c = search needs
 
--- src/main.rt:15:9
 read-full-requires : tie.Need-read-full-requires
 read-full-requires c κs = search needs
 
--- src/main.rt:17:31
 array-share-prefix-text : tie.Need-array-share-prefix-text
 array-share-prefix-text c = search needs
 
--- src/main.rt:17:31
 slice-aggregate-answer : tie.Need-slice-aggregate-answer
 slice-aggregate-answer c = search needs
 
--- src/main.rt:17:9
 answer-requires : tie.Need-answer-requires
 answer-requires c κs = search needs
 
--- src/main.rt:18:40
 array-share-prefix-out : tie.Need-array-share-prefix-out
 array-share-prefix-out c = search needs
 
--- src/main.rt:18:40
 slice-aggregate-write-all : tie.Need-slice-aggregate-write-all
-slice-aggregate-write-all c = ?
+slice-aggregate-write-all c = sym (length-take-le (c .before .answer .result) _ (c .before .answer .ensures .fits))
 
--- src/main.rt:18:5
 write-all-requires : tie.Need-write-all-requires
 write-all-requires c κs = search needs
 
--- src/main.rt:13:1
 returns : tie.Need-returns
 returns c = search needs
 
