@@ -1,5 +1,5 @@
 -- The calls that a file stands for, made one after the other on a state. Assumes nothing.
-use mathlib.Core.Path.{_≡_, refl, sym, ap, ap₂, _∙_, subst, subst⁻¹}
+use mathlib.Core.Path.{_≡_, refl, ap, ap₂, _∙_, subst, subst⁻¹}
 use mathlib.Core.Logic.{by-cases}
 use mathlib.Core.List.{List, [], _∷_, _++_}
 use Prim.Native.Nat.{ℕ, _+_, _-_, _*_, _^_, _≤_, _<_}
@@ -17,7 +17,6 @@ use Rattle.state.specs.declared.State.{State}
 use Rattle.state.specs.Promises.{Answers, sortSaid}
 use Rattle.state.specs.Holds.{Holds}
 use Rattle.state.specs.Runs.{Run, start, step}
-use Rattle.state.specs.Layout.{joined}
 use Rattle.wcsp.specs.declared.tables.Table as Code
 use Rattle.wcsp.specs.Files.{Table, taken, variableCalls, tableCall, tableCalls}
 use Rattle.wcsp.specs.Steps.{TableKept}

@@ -1,5 +1,5 @@
 -- Steps of the reader's code, one after the other: a fault ends the reading, and otherwise it goes on at the place after. Assumes nothing.
-use mathlib.Core.Path.{_≡_, refl, sym, ap, _∙_, subst, subst⁻¹}
+use mathlib.Core.Path.{_≡_, ap, _∙_, subst, subst⁻¹}
 use Prim.Native.Nat.{ℕ}
 use Rattle.state.specs.declared.Refusal.{Refusal}
 use Rattle.wcsp.specs.declared.Step.{Step}

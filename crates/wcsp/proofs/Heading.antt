@@ -1,7 +1,5 @@
 -- The first line of a file: where it has a fault, nothing of it is kept. Assumes nothing.
-use mathlib.Core.Path.{_≡_, sym, subst⁻¹}
-use mathlib.Core.List.{List}
-use Prim.Native.Nat.{ℕ}
+use mathlib.Core.Path.{_≡_, subst⁻¹}
 use native.Mathlib.Omega.{arith}
 use Rattle.wcsp.specs.declared.Step.{Step}
 use Rattle.wcsp.specs.declared.header.Header as Code

@@ -1,7 +1,7 @@
 -- One number: what its token says, and what the tests say of it. Assumes nothing.
-use mathlib.Core.Path.{_≡_, refl, sym, ap, _∙_, subst, subst⁻¹}
+use mathlib.Core.Path.{_≡_, refl, sym, ap, _∙_, subst}
 use mathlib.Core.Bool.{Bool, true, false, cond}
-use mathlib.Core.List.{List, [], _∷_}
+use mathlib.Core.List.{List}
 use Prim.Native.Nat.{ℕ, _≤_}
 use native.Mathlib.Omega.{arith}
 use borrow.Author.Tests.{eq-eqb, ne-eqb, eqb-true, ltb-false}
@@ -12,12 +12,10 @@ use Rattle.meaning.specs.Refusals.{Refusal, first}
 use Rattle.meaning.proofs.Proper.{number-above, Passed, passed}
 use Rattle.text.specs.declared.NumberRead.{NumberRead}
 use Rattle.text.specs.declared.NumberRead.the-variants.{Malformed, Number}
-use Rattle.text.specs.declared.NameRead.{NameRead}
 use Rattle.text.specs.declared.NameRead.the-variants.{NoName, Name}
 use Rattle.text.specs.Words.{tokenStart}
 use Rattle.text.specs.Tokens.{numberAt, nameAt}
 use Rattle.wcsp.specs.Reading.{Reading, fault, got, Tests, judged, numberJudged, nameJudged, number, name, ended, range}
-use Rattle.wcsp.specs.declared.Step.{Step}
 use Rattle.wcsp.specs.declared.Step.the-variants.{Fault, Read}
 use Rattle.wcsp.specs.Steps.{numberOf, ComesTo}
 use Rattle.state.specs.declared.Refusal as Refusals

@@ -1,12 +1,12 @@
 -- How many variables an accepted file has. Assumes nothing.
-use mathlib.Core.Path.{_≡_, refl, sym, ap, _∙_}
+use mathlib.Core.Path.{_≡_, sym, ap, _∙_}
 use mathlib.Core.List.{List, [], _∷_, _++_}
-use Prim.Native.Nat.{ℕ, zero, suc, _+_, _≤_, _<_}
+use Prim.Native.Nat.{ℕ, zero, suc, _+_, _≤_}
 use native.Mathlib.Omega.{arith}
 use lib.ListN.{length, length-append}
 use Rattle.meaning.specs.Limits.{variableLimit, valueLimit, ruleLimit}
 use Rattle.meaning.specs.Refusals.{outOfRange, full}
-use Rattle.wcsp.specs.Reading.{Reading, fault, got, next, times, anyNumber, range, number, name, several, ended}
+use Rattle.wcsp.specs.Reading.{Reading, got, times, anyNumber, range, number, name, several, ended}
 use Rattle.wcsp.specs.Files.{Header, File, sizeTests, header, table, file}
 use Rattle.wcsp.proofs.Readings.{whatOr, split}
 use Rattle.wcsp.proofs.Judging.{in-range}

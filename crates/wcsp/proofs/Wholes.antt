@@ -1,6 +1,6 @@
 -- A file as a whole. Assumes nothing.
 use mathlib.Core.Path.{_≡_, refl, sym, ap, _∙_, subst, subst⁻¹}
-use mathlib.Core.Bool.{Bool, true, false, true≢false}
+use mathlib.Core.Bool.{true, false, true≢false}
 use mathlib.Core.List.{List, []}
 use Prim.Native.Nat.{ℕ, _≤_}
 use native.Mathlib.Omega.{arith}
@@ -16,9 +16,8 @@ use Rattle.state.specs.Runs.{Run}
 use Rattle.wcsp.specs.declared.Step.{Step}
 use Rattle.wcsp.specs.declared.Step.the-variants.{Fault, Read}
 use Rattle.wcsp.specs.declared.loading.Attempt as Code
-use Rattle.wcsp.specs.declared.Outcome.{Outcome}
 use Rattle.wcsp.specs.declared.Outcome.the-variants.{Accepted, Refused}
-use Rattle.wcsp.specs.Reading.{Reading, fault, got, several, times, ended}
+use Rattle.wcsp.specs.Reading.{fault, several, times, ended}
 use Rattle.wcsp.specs.Files.{Header, File, header, sizeTests, table, file, calls, variableCalls, tableCalls}
 use Rattle.wcsp.specs.Steps.{numberOf, Comes, ComesTo, Says, Whole}
 use Rattle.wcsp.specs.Promises.{Reads}

@@ -3,10 +3,6 @@ use Rattle.lines.proofs.Putting.{written-fits}
 use borrow.Author.Needs.{needs}
 use Rattle.reply.proofs.answer.Statement.{statement}
 use Rattle.reply.proofs.answer.Tie as tie
-use Rattle.reply.proofs.answer.Reads as reads
-use Rattle.reply.proofs.answer.Lts as lts
-use Rattle.lines.proofs.write_too_long.Reads as write-too-long-reads
-use Rattle.reply.proofs.reply.Reads as reply-reads
 
 write-too-long-requires : tie.Need-write-too-long-requires
 write-too-long-requires c κs = search needs

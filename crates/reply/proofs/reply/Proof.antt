@@ -2,12 +2,6 @@ use Rattle.reply.proofs.Replying.{refused-replies, may-solve, accepted-
 use borrow.Author.Needs.{needs}
 use Rattle.reply.proofs.reply.Statement.{statement}
 use Rattle.reply.proofs.reply.Tie as tie
-use Rattle.reply.proofs.reply.Reads as reads
-use Rattle.reply.proofs.reply.Lts as lts
-use Rattle.lines.proofs.write_refused.Reads as write-refused-reads
-use Rattle.reply.proofs.number_of.Reads as number-of-reads
-use Rattle.reply.proofs.write_solved.Reads as write-solved-reads
-use Rattle.wcsp.proofs.read.Reads as read-reads
 
 read-requires : tie.Need-read-requires
 read-requires c κs = search needs

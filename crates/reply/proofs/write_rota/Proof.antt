@@ -8,11 +8,6 @@ use Rattle.reply.proofs.Telling.{rota-lines}
 use borrow.Author.Needs.{needs}
 use Rattle.reply.proofs.write_rota.Statement.{statement}
 use Rattle.reply.proofs.write_rota.Tie as tie
-use Rattle.reply.proofs.write_rota.Reads as reads
-use Rattle.reply.proofs.write_rota.Lts as lts
-use Rattle.lines.proofs.write_found.Reads as write-found-reads
-use Rattle.profile.proofs.sorted_up.Reads as sorted-up-reads
-use Rattle.reply.proofs.objective_count.Reads as objective-count-reads
 
 objective-count-requires : tie.Need-objective-count-requires
 objective-count-requires c κs = search needs

@@ -1,7 +1,7 @@
 use Rattle.lines.proofs.Putting.{written-fits}
 use Rattle.reply.specs.Replies.{upwards}
 use lib.ListN.{take}
-use mathlib.Core.Path.{_≡_, sym}
+use mathlib.Core.Path.{sym}
 use native.Mathlib.Omega.{arith}
 use lib.Seq.{length-take-le}
 use Rattle.meaning.specs.Calls.{nameObjectives}
@@ -10,13 +10,6 @@ use Rattle.reply.proofs.Telling.{told, found-tells, none-tells, never-r
 use borrow.Author.Needs.{needs}
 use Rattle.reply.proofs.write_solved.Statement.{statement}
 use Rattle.reply.proofs.write_solved.Tie as tie
-use Rattle.reply.proofs.write_solved.Reads as reads
-use Rattle.reply.proofs.write_solved.Lts as lts
-use Rattle.lines.proofs.write_inconsistent.Reads as write-inconsistent-reads
-use Rattle.reply.proofs.objective_count.Reads as objective-count-reads
-use Rattle.reply.proofs.write_rota.Reads as write-rota-reads
-use Rattle.state.proofs.name_objectives.Reads as name-objectives-reads
-use Rattle.state.proofs.solve.Reads as solve-reads
 
 objective-count-requires : tie.Need-objective-count-requires
 objective-count-requires c κs = search needs

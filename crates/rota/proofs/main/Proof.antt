@@ -4,12 +4,6 @@ use lib.Seq.{length-take-le}
 use borrow.Author.Needs.{needs}
 use Rattle.rota.proofs.main.Statement.{statement}
 use Rattle.rota.proofs.main.Tie as tie
-use Rattle.rota.proofs.main.Reads as reads
-use Rattle.rota.proofs.main.Lts as lts
-use Rattle.io.proofs.read_full.Reads as read-full-reads
-use Rattle.io.proofs.write_all.Reads as write-all-reads
-use Rattle.reply.proofs.answer.Reads as answer-reads
-use Rattle.rota.proofs.room.Reads as room-reads
 
 room-requires : tie.Need-room-requires
 room-requires c κs = search needs

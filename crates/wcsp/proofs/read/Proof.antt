@@ -1,11 +1,8 @@
+-- `wcsp::read` meets its contract. Assumes nothing.
 use Rattle.wcsp.proofs.Wholes.{reads-none, reads-file}
 use borrow.Author.Needs.{needs}
 use Rattle.wcsp.proofs.read.Statement.{statement}
 use Rattle.wcsp.proofs.read.Tie as tie
-use Rattle.wcsp.proofs.read.Reads as reads
-use Rattle.wcsp.proofs.read.Lts as lts
-use Rattle.state.proofs.new.Reads as new-reads
-use Rattle.wcsp.proofs.loading.load.Reads as load-reads
 
 load-requires : tie.Need-load-requires
 load-requires c κs = search needs

@@ -1,16 +1,11 @@
-use mathlib.Core.Path.{_≡_, refl, _∙_}
+-- `wcsp::header::read_header` meets its contract. Each number goes on from the one before it. Assumes nothing.
+use mathlib.Core.Path.{refl, _∙_}
 use Rattle.wcsp.proofs.Coming.{comes-by, stops, number-is, number-on, last-one}
 use Rattle.wcsp.proofs.Judging.{in-range}
 use Rattle.wcsp.proofs.Heading.{nothing-kept}
 use borrow.Author.Needs.{needs}
 use Rattle.wcsp.proofs.header.read_header.Statement.{statement}
 use Rattle.wcsp.proofs.header.read_header.Tie as tie
-use Rattle.wcsp.proofs.header.read_header.Reads as reads
-use Rattle.wcsp.proofs.header.read_header.Lts as lts
-use Rattle.wcsp.proofs.header.no_header.Reads as no-header-reads
-use Rattle.wcsp.proofs.header.skip_name.Reads as skip-name-reads
-use Rattle.wcsp.proofs.numbers.any_number.Reads as any-number-reads
-use Rattle.wcsp.proofs.numbers.number_within.Reads as number-within-reads
 
 skip-name-requires : tie.Need-skip-name-requires
 skip-name-requires c κs = search needs
@@ -40,7 +35,8 @@ no-header-requires-2 : tie.Need-no-header-requires-2
 no-header-requires-2 c κs = search needs
 
 returns-2 : tie.Need-returns-2
-returns-2 c = nothing-kept _ (c .no-header2 .ensures) (comes-by (number-on (c .before .before .before .before .before .before .before .skip-name .ensures) _ (c .before .before .before .before .before .named .given .1)) (stops (c .before .before .before .number-within .ensures) _ (c .before .enum-told2 .given .1)))
+returns-2 c =
+    nothing-kept _ (c .no-header2 .ensures) (comes-by (number-on (c .before .before .before .before .before .before .before .skip-name .ensures) _ (c .before .before .before .before .before .named .given .1)) (stops (c .before .before .before .number-within .ensures) _ (c .before .enum-told2 .given .1)))
 
 number-within-requires-2 : tie.Need-number-within-requires-2
 number-within-requires-2 c κs = search needs
@@ -55,7 +51,8 @@ no-header-requires-3 : tie.Need-no-header-requires-3
 no-header-requires-3 c κs = search needs
 
 returns-3 : tie.Need-returns-3
-returns-3 c = nothing-kept _ (c .no-header3 .ensures) (comes-by (number-on (c .before .before .before .before .before .before .before .before .before .before .before .skip-name .ensures) _ (c .before .before .before .before .before .before .before .before .before .named .given .1) ∙ number-on (c .before .before .before .before .before .before .before .number-within .ensures) _ (c .before .before .before .before .before .first .given .1)) (stops (c .before .before .before .number-within2 .ensures) _ (c .before .enum-told3 .given .1)))
+returns-3 c =
+    nothing-kept _ (c .no-header3 .ensures) (comes-by (number-on (c .before .before .before .before .before .before .before .before .before .before .before .skip-name .ensures) _ (c .before .before .before .before .before .before .before .before .before .named .given .1) ∙ number-on (c .before .before .before .before .before .before .before .number-within .ensures) _ (c .before .before .before .before .before .first .given .1)) (stops (c .before .before .before .number-within2 .ensures) _ (c .before .enum-told3 .given .1)))
 
 number-within-requires-3 : tie.Need-number-within-requires-3
 number-within-requires-3 c κs = search needs
@@ -70,13 +67,15 @@ no-header-requires-4 : tie.Need-no-header-requires-4
 no-header-requires-4 c κs = search needs
 
 returns-4 : tie.Need-returns-4
-returns-4 c = nothing-kept _ (c .no-header4 .ensures) (comes-by (number-on (c .before .before .before .before .before .before .before .before .before .before .before .before .before .before .before .skip-name .ensures) _ (c .before .before .before .before .before .before .before .before .before .before .before .before .before .named .given .1) ∙ number-on (c .before .before .before .before .before .before .before .before .before .before .before .number-within .ensures) _ (c .before .before .before .before .before .before .before .before .before .first .given .1) ∙ number-on (c .before .before .before .before .before .before .before .number-within2 .ensures) _ (c .before .before .before .before .before .second .given .1)) (stops (c .before .before .before .number-within3 .ensures) _ (c .before .enum-told4 .given .1)))
+returns-4 c =
+    nothing-kept _ (c .no-header4 .ensures) (comes-by (number-on (c .before .before .before .before .before .before .before .before .before .before .before .before .before .before .before .skip-name .ensures) _ (c .before .before .before .before .before .before .before .before .before .before .before .before .before .named .given .1) ∙ number-on (c .before .before .before .before .before .before .before .before .before .before .before .number-within .ensures) _ (c .before .before .before .before .before .before .before .before .before .first .given .1) ∙ number-on (c .before .before .before .before .before .before .before .number-within2 .ensures) _ (c .before .before .before .before .before .second .given .1)) (stops (c .before .before .before .number-within3 .ensures) _ (c .before .enum-told4 .given .1)))
 
 any-number-requires : tie.Need-any-number-requires
 any-number-requires c κs = search needs
 
 returns-5 : tie.Need-returns-5
-returns-5 c = ((in-range _ _ _ _ _ _ (number-is (c .before .before .before .before .before .before .before .before .before .before .before .before .number-within .ensures) (c .before .before .before .before .before .before .before .before .before .before .first .given .1)) .1, in-range _ _ _ _ _ _ (number-is (c .before .before .before .before .before .before .before .before .number-within2 .ensures) (c .before .before .before .before .before .before .second .given .1)) .1, in-range _ _ _ _ _ _ (number-is (c .before .before .before .before .number-within3 .ensures) (c .before .before .third .given .1)) .1), comes-by (number-on (c .before .before .before .before .before .before .before .before .before .before .before .before .before .before .before .before .skip-name .ensures) _ (c .before .before .before .before .before .before .before .before .before .before .before .before .before .before .named .given .1) ∙ number-on (c .before .before .before .before .before .before .before .before .before .before .before .before .number-within .ensures) _ (c .before .before .before .before .before .before .before .before .before .before .first .given .1) ∙ number-on (c .before .before .before .before .before .before .before .before .number-within2 .ensures) _ (c .before .before .before .before .before .before .second .given .1) ∙ number-on (c .before .before .before .before .number-within3 .ensures) _ (c .before .before .third .given .1)) (last-one (c .any-number .ensures) _ (λ x v k. (refl, refl, refl))))
+returns-5 c =
+    ((in-range _ _ _ _ _ _ (number-is (c .before .before .before .before .before .before .before .before .before .before .before .before .number-within .ensures) (c .before .before .before .before .before .before .before .before .before .before .first .given .1)) .1, in-range _ _ _ _ _ _ (number-is (c .before .before .before .before .before .before .before .before .number-within2 .ensures) (c .before .before .before .before .before .before .second .given .1)) .1, in-range _ _ _ _ _ _ (number-is (c .before .before .before .before .number-within3 .ensures) (c .before .before .third .given .1)) .1), comes-by (number-on (c .before .before .before .before .before .before .before .before .before .before .before .before .before .before .before .before .skip-name .ensures) _ (c .before .before .before .before .before .before .before .before .before .before .before .before .before .before .named .given .1) ∙ number-on (c .before .before .before .before .before .before .before .before .before .before .before .before .number-within .ensures) _ (c .before .before .before .before .before .before .before .before .before .before .first .given .1) ∙ number-on (c .before .before .before .before .before .before .before .before .number-within2 .ensures) _ (c .before .before .before .before .before .before .second .given .1) ∙ number-on (c .before .before .before .before .number-within3 .ensures) _ (c .before .before .third .given .1)) (last-one (c .any-number .ensures) _ (λ x v k. (refl, refl, refl))))
 
 pub read-header-spec : {M : Type 1} → statement M
 read-header-spec =

@@ -1,11 +1,9 @@
-use mathlib.Core.Path.{_≡_, refl, sym, ap, _∙_}
+-- `wcsp::header::skip_name` meets its contract. Assumes nothing.
+use mathlib.Core.Path.{sym, _∙_}
 use Rattle.wcsp.proofs.Judging.{name-missing, name-there}
 use borrow.Author.Needs.{needs}
 use Rattle.wcsp.proofs.header.skip_name.Statement.{statement}
 use Rattle.wcsp.proofs.header.skip_name.Tie as tie
-use Rattle.wcsp.proofs.header.skip_name.Reads as reads
-use Rattle.wcsp.proofs.header.skip_name.Lts as lts
-use Rattle.text.proofs.read_name.Reads as read-name-reads
 
 read-name-requires : tie.Need-read-name-requires
 read-name-requires c κs = search needs

@@ -1,16 +1,9 @@
+-- `wcsp::loading::load` meets its contract. Each part goes on from the one before it. Assumes nothing.
 use native.Mathlib.Omega.{arith}
 use Rattle.wcsp.proofs.Wholes.{no-header, no-sizes, sizes-whole, no-tables, the-file}
 use borrow.Author.Needs.{needs}
 use Rattle.wcsp.proofs.loading.load.Statement.{statement}
 use Rattle.wcsp.proofs.loading.load.Tie as tie
-use Rattle.wcsp.proofs.loading.load.Reads as reads
-use Rattle.wcsp.proofs.loading.load.Lts as lts
-use Rattle.wcsp.proofs.header.read_header.Reads as read-header-reads
-use Rattle.wcsp.proofs.loading.declared.Reads as declared-reads
-use Rattle.wcsp.proofs.loading.read_end.Reads as read-end-reads
-use Rattle.wcsp.proofs.loading.stopped.Reads as stopped-reads
-use Rattle.wcsp.proofs.sizes.read_sizes.Reads as read-sizes-reads
-use Rattle.wcsp.proofs.tables.read_tables.Reads as read-tables-reads
 
 read-header-requires : tie.Need-read-header-requires
 read-header-requires c κs = search needs
@@ -40,13 +33,16 @@ stopped-requires-2 : tie.Need-stopped-requires-2
 stopped-requires-2 c κs = search needs
 
 returns-2 : tie.Need-returns-2
-returns-2 c = no-sizes _ ((c .before .before .before .before .before .before .before .read-header .ensures) .1) (c .before .before .before .before .before .first .given .1) _ ((c .before .before .before .read-sizes .ensures) .2) _ (c .stopped2 .ensures) (c .before .enum-told2 .given .1)
+returns-2 c =
+    no-sizes _ ((c .before .before .before .before .before .before .before .read-header .ensures) .1) (c .before .before .before .before .before .first .given .1) _ ((c .before .before .before .read-sizes .ensures) .2) _ (c .stopped2 .ensures) (c .before .enum-told2 .given .1)
 
 declared-requires : tie.Need-declared-requires
-declared-requires c κs = ((c .before .before .before .before .read-sizes .ensures) .0, (c .before .before .before .before .before .before .before .before .read-header .ensures) .0 .0)
+declared-requires c κs =
+    ((c .before .before .before .before .read-sizes .ensures) .0, (c .before .before .before .before .before .before .before .before .read-header .ensures) .0 .0)
 
 read-tables-requires : tie.Need-read-tables-requires
-read-tables-requires c κs = ((c .before .before .before .before .before .read-sizes .ensures) .0, sizes-whole _ ((c .before .before .before .before .before .before .before .before .before .read-header .ensures) .1) (c .before .before .before .before .before .before .before .first .given .1) _ ((c .before .before .before .before .before .read-sizes .ensures) .2) (c .before .before .before .second .given .1), (c .before .before .before .before .before .before .before .before .before .read-header .ensures) .0 .0, (c .declared .ensures))
+read-tables-requires c κs =
+    ((c .before .before .before .before .before .read-sizes .ensures) .0, sizes-whole _ ((c .before .before .before .before .before .before .before .before .before .read-header .ensures) .1) (c .before .before .before .before .before .before .before .first .given .1) _ ((c .before .before .before .before .before .read-sizes .ensures) .2) (c .before .before .before .second .given .1), (c .before .before .before .before .before .before .before .before .before .read-header .ensures) .0 .0, (c .declared .ensures))
 
 enum-known-third : tie.Need-enum-known-third
 enum-known-third c = search needs
@@ -58,13 +54,15 @@ stopped-requires-3 : tie.Need-stopped-requires-3
 stopped-requires-3 c κs = search needs
 
 returns-3 : tie.Need-returns-3
-returns-3 c = no-tables _ ((c .before .before .before .before .before .before .before .before .before .before .before .before .before .read-header .ensures) .1) (c .before .before .before .before .before .before .before .before .before .before .before .first .given .1) _ ((c .before .before .before .before .before .before .before .before .before .read-sizes .ensures) .2) (c .before .before .before .before .before .before .before .second .given .1) _ (c .before .before .before .read-tables .ensures) _ (c .stopped3 .ensures) (c .before .enum-told3 .given .1)
+returns-3 c =
+    no-tables _ ((c .before .before .before .before .before .before .before .before .before .before .before .before .before .read-header .ensures) .1) (c .before .before .before .before .before .before .before .before .before .before .before .first .given .1) _ ((c .before .before .before .before .before .before .before .before .before .read-sizes .ensures) .2) (c .before .before .before .before .before .before .before .second .given .1) _ (c .before .before .before .read-tables .ensures) _ (c .stopped3 .ensures) (c .before .enum-told3 .given .1)
 
 read-end-requires : tie.Need-read-end-requires
 read-end-requires c κs = search needs
 
 returns-4 : tie.Need-returns-4
-returns-4 c = the-file _ ((c .before .before .before .before .before .before .before .before .before .before .before .before .before .before .before .read-header .ensures) .1) (c .before .before .before .before .before .before .before .before .before .before .before .before .before .first .given .1) _ ((c .before .before .before .before .before .before .before .before .before .before .before .read-sizes .ensures) .2) (c .before .before .before .before .before .before .before .before .before .second .given .1) _ (c .before .before .before .before .before .read-tables .ensures) (c .before .before .before .third .given .1) (c .before .read-end .ensures) (omega (arith, (c .before .before .before .before .before .before .before .before .before .before .before .read-sizes .ensures) .1, (c .before .before .before .before .before .before .before .before .before .before .before .before .before .before .before .read-header .ensures) .0 .0))
+returns-4 c =
+    the-file _ ((c .before .before .before .before .before .before .before .before .before .before .before .before .before .before .before .read-header .ensures) .1) (c .before .before .before .before .before .before .before .before .before .before .before .before .before .first .given .1) _ ((c .before .before .before .before .before .before .before .before .before .before .before .read-sizes .ensures) .2) (c .before .before .before .before .before .before .before .before .before .second .given .1) _ (c .before .before .before .before .before .read-tables .ensures) (c .before .before .before .third .given .1) (c .before .read-end .ensures) (omega (arith, (c .before .before .before .before .before .before .before .before .before .before .before .read-sizes .ensures) .1, (c .before .before .before .before .before .before .before .before .before .before .before .before .before .before .before .read-header .ensures) .0 .0))
 
 pub load-spec : {M : Type 1} → statement M
 load-spec =

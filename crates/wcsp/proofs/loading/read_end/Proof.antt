@@ -1,10 +1,8 @@
+-- `wcsp::loading::read_end` meets its contract. Assumes nothing.
 use Rattle.wcsp.proofs.Judging.{goes-further, is-ended}
 use borrow.Author.Needs.{needs}
 use Rattle.wcsp.proofs.loading.read_end.Statement.{statement}
 use Rattle.wcsp.proofs.loading.read_end.Tie as tie
-use Rattle.wcsp.proofs.loading.read_end.Reads as reads
-use Rattle.wcsp.proofs.loading.read_end.Lts as lts
-use Rattle.text.proofs.skip_blanks.Reads as skip-blanks-reads
 
 skip-blanks-requires : tie.Need-skip-blanks-requires
 skip-blanks-requires c κs = search needs

@@ -1,13 +1,9 @@
-use mathlib.Core.Path.{_≡_, refl, sym, _∙_}
-use mathlib.Core.Logic.{inl, inr}
-use borrow.Author.Tests.{lt-ltb, le-ltb, le-leb, lt-leb}
-use Rattle.wcsp.proofs.Judging.{malformed-step, refused-step, passed-step}
+-- `wcsp::numbers::any_number` meets its contract. Assumes nothing.
+use mathlib.Core.Path.{refl, sym, _∙_}
+use Rattle.wcsp.proofs.Judging.{malformed-step, passed-step}
 use borrow.Author.Needs.{needs}
 use Rattle.wcsp.proofs.numbers.any_number.Statement.{statement}
 use Rattle.wcsp.proofs.numbers.any_number.Tie as tie
-use Rattle.wcsp.proofs.numbers.any_number.Reads as reads
-use Rattle.wcsp.proofs.numbers.any_number.Lts as lts
-use Rattle.text.proofs.read_number.Reads as read-number-reads
 
 read-number-requires : tie.Need-read-number-requires
 read-number-requires c κs = search needs

@@ -1,13 +1,11 @@
-use mathlib.Core.Path.{_≡_, refl, sym, _∙_}
+-- `wcsp::numbers::number_below` meets its contract. Assumes nothing.
+use mathlib.Core.Path.{refl, sym, _∙_}
 use mathlib.Core.Logic.{inl, inr}
-use borrow.Author.Tests.{lt-ltb, le-ltb, le-leb, lt-leb}
+use borrow.Author.Tests.{le-leb, lt-leb}
 use Rattle.wcsp.proofs.Judging.{malformed-step, refused-step, passed-step}
 use borrow.Author.Needs.{needs}
 use Rattle.wcsp.proofs.numbers.number_below.Statement.{statement}
 use Rattle.wcsp.proofs.numbers.number_below.Tie as tie
-use Rattle.wcsp.proofs.numbers.number_below.Reads as reads
-use Rattle.wcsp.proofs.numbers.number_below.Lts as lts
-use Rattle.text.proofs.read_number.Reads as read-number-reads
 
 read-number-requires : tie.Need-read-number-requires
 read-number-requires c κs = search needs
@@ -22,13 +20,15 @@ cast-v : tie.Need-cast-v
 cast-v c = search needs
 
 returns : tie.Need-returns
-returns c = refused-step _ _ _ (sym (c .before .before .before .before .read-number .ensures) ∙ c .before .before .read2 .given .1) _ (inl (le-leb _ _ (c .if1 .taken), refl))
+returns c =
+    refused-step _ _ _ (sym (c .before .before .before .before .read-number .ensures) ∙ c .before .before .read2 .given .1) _ (inl (le-leb _ _ (c .if1 .taken), refl))
 
 returns-2 : tie.Need-returns-2
 returns-2 c = malformed-step _ _ _ (sym (c .before .before .before .read-number .ensures) ∙ c .before .read .given .1)
 
 returns-3 : tie.Need-returns-3
-returns-3 c = passed-step _ _ _ (sym (c .before .before .before .before .read-number .ensures) ∙ c .before .before .read2 .given .1) (inr (lt-leb _ _ (c .if1 .left), refl))
+returns-3 c =
+    passed-step _ _ _ (sym (c .before .before .before .before .read-number .ensures) ∙ c .before .before .read2 .given .1) (inr (lt-leb _ _ (c .if1 .left), refl))
 
 pub number-below-spec : {M : Type 1} → statement M
 number-below-spec =

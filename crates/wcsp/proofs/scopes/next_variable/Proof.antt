@@ -1,14 +1,11 @@
-use mathlib.Core.Path.{_≡_, refl, sym, _∙_}
+-- `wcsp::scopes::next_variable` meets its contract. Assumes nothing.
+use mathlib.Core.Path.{refl, sym, _∙_}
 use mathlib.Core.Logic.{inl, inr}
-use borrow.Author.Tests.{lt-ltb, le-ltb, le-leb, lt-leb}
+use borrow.Author.Tests.{le-leb, lt-leb}
 use Rattle.wcsp.proofs.Judging.{malformed-step, refused-step, passed-step}
 use borrow.Author.Needs.{needs}
 use Rattle.wcsp.proofs.scopes.next_variable.Statement.{statement}
 use Rattle.wcsp.proofs.scopes.next_variable.Tie as tie
-use Rattle.wcsp.proofs.scopes.next_variable.Reads as reads
-use Rattle.wcsp.proofs.scopes.next_variable.Lts as lts
-use Rattle.text.proofs.read_number.Reads as read-number-reads
-use Rattle.wcsp.proofs.scopes.stands.Reads as stands-reads
 
 read-number-requires : tie.Need-read-number-requires
 read-number-requires c κs = search needs
@@ -23,19 +20,22 @@ cast-x : tie.Need-cast-x
 cast-x c = search needs
 
 returns : tie.Need-returns
-returns c = refused-step _ _ _ (sym (c .before .before .before .before .read-number .ensures) ∙ c .before .before .read2 .given .1) _ (inl (le-leb _ _ (c .if1 .taken), refl))
+returns c =
+    refused-step _ _ _ (sym (c .before .before .before .before .read-number .ensures) ∙ c .before .before .read2 .given .1) _ (inl (le-leb _ _ (c .if1 .taken), refl))
 
 stands-requires : tie.Need-stands-requires
 stands-requires c κs = search needs
 
 returns-2 : tie.Need-returns-2
-returns-2 c = refused-step _ _ _ (sym (c .before .before .before .before .before .before .read-number .ensures) ∙ c .before .before .before .before .read2 .given .1) _ (inr (lt-leb _ _ (c .before .before .if1 .left), inl (sym (c .before .stands .ensures) ∙ c .if2 .taken, refl)))
+returns-2 c =
+    refused-step _ _ _ (sym (c .before .before .before .before .before .before .read-number .ensures) ∙ c .before .before .before .before .read2 .given .1) _ (inr (lt-leb _ _ (c .before .before .if1 .left), inl (sym (c .before .stands .ensures) ∙ c .if2 .taken, refl)))
 
 returns-3 : tie.Need-returns-3
 returns-3 c = malformed-step _ _ _ (sym (c .before .before .before .read-number .ensures) ∙ c .before .read .given .1)
 
 returns-4 : tie.Need-returns-4
-returns-4 c = passed-step _ _ _ (sym (c .before .before .before .before .before .before .read-number .ensures) ∙ c .before .before .before .before .read2 .given .1) (inr (lt-leb _ _ (c .before .before .if1 .left), inr (sym (c .before .stands .ensures) ∙ c .if2 .left, refl)))
+returns-4 c =
+    passed-step _ _ _ (sym (c .before .before .before .before .before .before .read-number .ensures) ∙ c .before .before .before .before .read2 .given .1) (inr (lt-leb _ _ (c .before .before .if1 .left), inr (sym (c .before .stands .ensures) ∙ c .if2 .left, refl)))
 
 pub next-variable-spec : {M : Type 1} → statement M
 next-variable-spec =

@@ -1,7 +1,8 @@
+-- `wcsp::scopes::read_scope` meets its contract. The loop: so many variables are named. Assumes nothing.
 use mathlib.Core.Path.{ap}
 use Prim.Native.Nat.{ℕ}
-use mathlib.Core.Path.{_≡_, refl, sym, _∙_}
-use Prim.Native.Nat.{_-_, _≤_, _<_}
+use mathlib.Core.Path.{_≡_, refl, _∙_}
+use Prim.Native.Nat.{_-_, _<_}
 use borrow.Author.Needs.{needs}
 use native.Mathlib.Omega.{arith}
 use lib.ListN.{length, take, length-set}
@@ -13,9 +14,6 @@ use Rattle.wcsp.specs.Files.{variableTests}
 use Rattle.wcsp.proofs.Judging.{tests-passed}
 use Rattle.wcsp.proofs.scopes.read_scope.Statement.{statement}
 use Rattle.wcsp.proofs.scopes.read_scope.Tie as tie
-use Rattle.wcsp.proofs.scopes.read_scope.Reads as reads
-use Rattle.wcsp.proofs.scopes.read_scope.Lts as lts
-use Rattle.wcsp.proofs.scopes.next_variable.Reads as next-variable-reads
 
 abbrev Inv-loop : tie.InvT-loop
 Inv-loop text at n arity variables₀ place₀ named₀ variables place named = (length variables ≡ 8) × Under 32 variables × NumbersSoFar text (variableTests n) arity at named place (take named variables)
@@ -36,13 +34,24 @@ enum-told : tie.Need-enum-told Inv-loop μ-loop
 enum-told c = search needs
 
 returns : tie.Need-returns Inv-loop μ-loop
-returns c = let a = c .before .before .before .before .before .before .args in let l = c .before .before .before .before .loop in (l .inv .1, l .inv .0, fault-there _ (l .inv .2) (c .before .before .before .loop-test .taken) (c .before .before .next-variable .ensures) (c .enum-told .given .1))
+returns c =
+    let a = c .before .before .before .before .before .before .args in
+    let l = c .before .before .before .before .loop in
+    (l .inv .1, l .inv .0, fault-there _ (l .inv .2) (c .before .before .before .loop-test .taken) (c .before .before .next-variable .ensures) (c .enum-told .given .1))
 
 cast-variables : tie.Need-cast-variables Inv-loop μ-loop
-cast-variables c = let a = c .before .before .before .before .before .before .before .args in let l = c .before .before .before .before .before .loop in let small : c .before .step .given .0 .0 < a .n = leb-false _ _ (tests-passed _ _ _ (number-is (c .before .before .before .next-variable .ensures) (c .before .step .given .1)) .0) in omega (arith, small)
+cast-variables c =
+    let a = c .before .before .before .before .before .before .before .args in
+    let l = c .before .before .before .before .before .loop in
+    let small : c .before .step .given .0 .0 < a .n = leb-false _ _ (tests-passed _ _ _ (number-is (c .before .before .before .next-variable .ensures) (c .before .step .given .1)) .0) in
+    omega (arith, small)
 
 array-write-variables : tie.Need-array-write-variables Inv-loop μ-loop
-array-write-variables c = let a = c .before .before .before .before .before .before .before .args in let l = c .before .before .before .before .before .loop in let few = l .inv .2 .few in search needs
+array-write-variables c =
+    let a = c .before .before .before .before .before .before .before .args in
+    let l = c .before .before .before .before .before .loop in
+    let few = l .inv .2 .few in
+    search needs
 
 add-named : tie.Need-add-named Inv-loop μ-loop
 add-named c = search needs
@@ -51,10 +60,19 @@ loop-less : tie.Need-loop-less Inv-loop μ-loop
 loop-less c = search needs
 
 loop-again : tie.Need-loop-again Inv-loop μ-loop
-loop-again c = let a = c .before .before .before .before .before .before .before .args in let l = c .before .before .before .before .before .loop in let v = c .before .step .given .0 .0 in let small : c .before .step .given .0 .0 < a .n = leb-false _ _ (tests-passed _ _ _ (number-is (c .before .before .before .next-variable .ensures) (c .before .step .given .1)) .0) in (length-set (l .variables) (l .named) v ∙ l .inv .0, under-set (l .variables) (l .named) v (l .inv .1) (omega (arith, small)) (search needs), next-number _ _ (l .inv .2) (c .before .before .before .before .loop-test .taken) (c .before .before .before .next-variable .ensures) _ (c .before .step .given .1) (put-next (l .variables) (l .named) v (search needs)))
+loop-again c =
+    let a = c .before .before .before .before .before .before .before .args in
+    let l = c .before .before .before .before .before .loop in
+    let v = c .before .step .given .0 .0 in
+    let small : c .before .step .given .0 .0 < a .n = leb-false _ _ (tests-passed _ _ _ (number-is (c .before .before .before .next-variable .ensures) (c .before .step .given .1)) .0) in
+    (length-set (l .variables) (l .named) v ∙ l .inv .0, under-set (l .variables) (l .named) v (l .inv .1) (omega (arith, small)) (search needs), next-number _ _ (l .inv .2) (c .before .before .before .before .loop-test .taken) (c .before .before .before .next-variable .ensures) _ (c .before .step .given .1) (put-next (l .variables) (l .named) v (search needs)))
 
 returns-2 : tie.Need-returns-2 Inv-loop μ-loop
-returns-2 c = let a = c .before .before .before .args in let l = c .before .loop in let all : l .named ≡ a .arity = omega (arith, l .inv .2 .few, c .loop-test .left) in (l .inv .1, l .inv .0, all-read _ (l .inv .2) _ (c .loop-test .left) (ap (λ (k : ℕ). take k (l .variables)) all))
+returns-2 c =
+    let a = c .before .before .before .args in
+    let l = c .before .loop in
+    let all : l .named ≡ a .arity = omega (arith, l .inv .2 .few, c .loop-test .left) in
+    (l .inv .1, l .inv .0, all-read _ (l .inv .2) _ (c .loop-test .left) (ap (λ (k : ℕ). take k (l .variables)) all))
 
 pub read-scope-spec : {M : Type 1} → statement M
 read-scope-spec =

@@ -1,7 +1,8 @@
+-- `wcsp::tables::read_tables` meets its contract. The loop: the first k tables are added. Assumes nothing.
 use mathlib.Core.Path.{_≡_, sym}
 use lib.Seq.{length-take-le}
 use mathlib.Core.List.{List, []}
-use Prim.Native.Nat.{ℕ, _+_, _-_, _≤_}
+use Prim.Native.Nat.{_-_, _≤_}
 use native.Mathlib.Omega.{arith}
 use borrow.Author.Needs.{needs}
 use lib.ListN.{length, take}
@@ -13,10 +14,6 @@ use Rattle.wcsp.proofs.Several.{SoFar, none-yet, one-more, fault-there,
 use Rattle.wcsp.proofs.Adding.{table-runs, used-more, no-tables, none-taken}
 use Rattle.wcsp.proofs.tables.read_tables.Statement.{statement}
 use Rattle.wcsp.proofs.tables.read_tables.Tie as tie
-use Rattle.wcsp.proofs.tables.read_tables.Reads as reads
-use Rattle.wcsp.proofs.tables.read_tables.Lts as lts
-use Rattle.state.proofs.add_table.Reads as add-table-reads
-use Rattle.wcsp.proofs.tables.read_table.Reads as read-table-reads
 
 abbrev Inv-loop : tie.InvT-loop
 Inv-loop text at sizes n count state₀ cells₀ place₀ used₀ k₀ state cells place used k = (length cells ≡ roomLimit) × (used ≤ roomLimit) × ((ts : List Table) × (taken ts ≡ used) × SoFar (table text (take n sizes)) count at k place ts × Run (tableCalls ts (variableCalls (take n sizes) [])) state)
@@ -28,7 +25,10 @@ loop-holds : tie.Need-loop-holds Inv-loop μ-loop
 loop-holds c = (search needs, search needs, ([], none-taken, none-yet _ _ _, no-tables (c .before .pre .3)))
 
 read-table-requires : tie.Need-read-table-requires Inv-loop μ-loop
-read-table-requires c κs = let p = c .before .before .before .before .pre in let l = c .before .before .loop in (p .0, p .1, p .2, l .inv .1, l .inv .0)
+read-table-requires c κs =
+    let p = c .before .before .before .before .pre in
+    let l = c .before .before .loop in
+    (p .0, p .1, p .2, l .inv .1, l .inv .0)
 
 enum-known-step : tie.Need-enum-known-step Inv-loop μ-loop
 enum-known-step c = search needs
@@ -37,28 +37,63 @@ enum-told : tie.Need-enum-told Inv-loop μ-loop
 enum-told c = search needs
 
 returns : tie.Need-returns Inv-loop μ-loop
-returns c = let l = c .before .before .before .before .before .loop in let (ts, u, so-far, run) = l .inv .2 in fault-there _ so-far (c .before .before .before .before .loop-test .taken) ((c .before .before .read-table .ensures) .1 ts u) (c .enum-told .given .1)
+returns c =
+    let l = c .before .before .before .before .before .loop in
+    let (ts, u, so-far, run) = l .inv .2 in
+    fault-there _ so-far (c .before .before .before .before .loop-test .taken) ((c .before .before .read-table .ensures) .1 ts u) (c .enum-told .given .1)
 
 array-share-prefix-scope : tie.Need-array-share-prefix-scope Inv-loop μ-loop
-array-share-prefix-scope c = let a = c .before .before .before .before .before .before .before .before .before .args in let l = c .before .before .before .before .before .before .before .loop in let (ts, u, so-far, run) = l .inv .2 in let (t, kept, more) = one-more (table (a .text .now) (take (a .n) (a .sizes))) so-far (c .before .before .before .before .before .before .loop-test .taken) ((c .before .before .before .before .read-table .ensures) .1 ts u) (c .before .before .step .given .1) in omega (arith, kept .arity-fits, kept .long)
+array-share-prefix-scope c =
+    let a = c .before .before .before .before .before .before .before .before .before .args in
+    let l = c .before .before .before .before .before .before .before .loop in
+    let (ts, u, so-far, run) = l .inv .2 in
+    let (t, kept, more) = one-more (table (a .text .now) (take (a .n) (a .sizes))) so-far (c .before .before .before .before .before .before .loop-test .taken) ((c .before .before .before .before .read-table .ensures) .1 ts u) (c .before .before .step .given .1) in
+    omega (arith, kept .arity-fits, kept .long)
 
 slice-aggregate-add-table : tie.Need-slice-aggregate-add-table Inv-loop μ-loop
-slice-aggregate-add-table c = let a = c .before .before .before .before .before .before .before .before .before .before .args in let l = c .before .before .before .before .before .before .before .before .loop in let (ts, u, so-far, run) = l .inv .2 in let (t, kept, more) = one-more (table (a .text .now) (take (a .n) (a .sizes))) so-far (c .before .before .before .before .before .before .before .loop-test .taken) ((c .before .before .before .before .before .read-table .ensures) .1 ts u) (c .before .before .before .step .given .1) in sym (length-take-le (c .before .before .before .before .before .read-table .result .arity) (c .before .before .before .before .before .read-table .result .scope) (omega (arith, kept .arity-fits, kept .long)))
+slice-aggregate-add-table c =
+    let a = c .before .before .before .before .before .before .before .before .before .before .args in
+    let l = c .before .before .before .before .before .before .before .before .loop in
+    let (ts, u, so-far, run) = l .inv .2 in
+    let (t, kept, more) = one-more (table (a .text .now) (take (a .n) (a .sizes))) so-far (c .before .before .before .before .before .before .before .loop-test .taken) ((c .before .before .before .before .before .read-table .ensures) .1 ts u) (c .before .before .before .step .given .1) in
+    sym (length-take-le (c .before .before .before .before .before .read-table .result .arity) (c .before .before .before .before .before .read-table .result .scope) (omega (arith, kept .arity-fits, kept .long)))
 
 array-share-prefix-cells : tie.Need-array-share-prefix-cells Inv-loop μ-loop
-array-share-prefix-cells c = let a = c .before .before .before .before .before .before .before .before .before .before .args in let l = c .before .before .before .before .before .before .before .before .loop in let (ts, u, so-far, run) = l .inv .2 in let (t, kept, more) = one-more (table (a .text .now) (take (a .n) (a .sizes))) so-far (c .before .before .before .before .before .before .before .loop-test .taken) ((c .before .before .before .before .before .read-table .ensures) .1 ts u) (c .before .before .before .step .given .1) in omega (arith, kept .room)
+array-share-prefix-cells c =
+    let a = c .before .before .before .before .before .before .before .before .before .before .args in
+    let l = c .before .before .before .before .before .before .before .before .loop in
+    let (ts, u, so-far, run) = l .inv .2 in
+    let (t, kept, more) = one-more (table (a .text .now) (take (a .n) (a .sizes))) so-far (c .before .before .before .before .before .before .before .loop-test .taken) ((c .before .before .before .before .before .read-table .ensures) .1 ts u) (c .before .before .before .step .given .1) in
+    omega (arith, kept .room)
 
 slice-aggregate-add-table-2 : tie.Need-slice-aggregate-add-table-2 Inv-loop μ-loop
-slice-aggregate-add-table-2 c = let a = c .before .before .before .before .before .before .before .before .before .before .before .args in let l = c .before .before .before .before .before .before .before .before .before .loop in let (ts, u, so-far, run) = l .inv .2 in let (t, kept, more) = one-more (table (a .text .now) (take (a .n) (a .sizes))) so-far (c .before .before .before .before .before .before .before .before .loop-test .taken) ((c .before .before .before .before .before .before .read-table .ensures) .1 ts u) (c .before .before .before .before .step .given .1) in sym (length-take-le (c .before .before .before .before .before .before .read-table .result .filled) _ (omega (arith, kept .room, (c .before .before .before .before .before .before .read-table .ensures) .0)))
+slice-aggregate-add-table-2 c =
+    let a = c .before .before .before .before .before .before .before .before .before .before .before .args in
+    let l = c .before .before .before .before .before .before .before .before .before .loop in
+    let (ts, u, so-far, run) = l .inv .2 in
+    let (t, kept, more) = one-more (table (a .text .now) (take (a .n) (a .sizes))) so-far (c .before .before .before .before .before .before .before .before .loop-test .taken) ((c .before .before .before .before .before .before .read-table .ensures) .1 ts u) (c .before .before .before .before .step .given .1) in
+    sym (length-take-le (c .before .before .before .before .before .before .read-table .result .filled) _ (omega (arith, kept .room, (c .before .before .before .before .before .before .read-table .ensures) .0)))
 
 add-table-requires : tie.Need-add-table-requires Inv-loop μ-loop
-add-table-requires c κs = let (ts, u, so-far, run) = c .before .before .before .before .before .before .before .before .before .loop .inv .2 in run-reached run
+add-table-requires c κs =
+    let (ts, u, so-far, run) = c .before .before .before .before .before .before .before .before .before .loop .inv .2 in
+    run-reached run
 
 add-used : tie.Need-add-used Inv-loop μ-loop
-add-used c = let a = c .before .before .before .before .before .before .before .before .before .before .before .before .before .args in let l = c .before .before .before .before .before .before .before .before .before .before .before .loop in let (ts, u, so-far, run) = l .inv .2 in let (t, kept, more) = one-more (table (a .text .now) (take (a .n) (a .sizes))) so-far (c .before .before .before .before .before .before .before .before .before .before .loop-test .taken) ((c .before .before .before .before .before .before .before .before .read-table .ensures) .1 ts u) (c .before .before .before .before .before .before .step .given .1) in omega (arith, kept .room)
+add-used c =
+    let a = c .before .before .before .before .before .before .before .before .before .before .before .before .before .args in
+    let l = c .before .before .before .before .before .before .before .before .before .before .before .loop in
+    let (ts, u, so-far, run) = l .inv .2 in
+    let (t, kept, more) = one-more (table (a .text .now) (take (a .n) (a .sizes))) so-far (c .before .before .before .before .before .before .before .before .before .before .loop-test .taken) ((c .before .before .before .before .before .before .before .before .read-table .ensures) .1 ts u) (c .before .before .before .before .before .before .step .given .1) in
+    omega (arith, kept .room)
 
 add-used-2 : tie.Need-add-used-2 Inv-loop μ-loop
-add-used-2 c = let a = c .before .before .before .before .before .before .before .before .before .before .before .before .before .args in let l = c .before .before .before .before .before .before .before .before .before .before .before .loop in let (ts, u, so-far, run) = l .inv .2 in let (t, kept, more) = one-more (table (a .text .now) (take (a .n) (a .sizes))) so-far (c .before .before .before .before .before .before .before .before .before .before .loop-test .taken) ((c .before .before .before .before .before .before .before .before .read-table .ensures) .1 ts u) (c .before .before .before .before .before .before .step .given .1) in omega (arith, kept .room)
+add-used-2 c =
+    let a = c .before .before .before .before .before .before .before .before .before .before .before .before .before .args in
+    let l = c .before .before .before .before .before .before .before .before .before .before .before .loop in
+    let (ts, u, so-far, run) = l .inv .2 in
+    let (t, kept, more) = one-more (table (a .text .now) (take (a .n) (a .sizes))) so-far (c .before .before .before .before .before .before .before .before .before .before .loop-test .taken) ((c .before .before .before .before .before .before .before .before .read-table .ensures) .1 ts u) (c .before .before .before .before .before .before .step .given .1) in
+    omega (arith, kept .room)
 
 add-k : tie.Need-add-k Inv-loop μ-loop
 add-k c = search needs
@@ -67,10 +102,18 @@ loop-less : tie.Need-loop-less Inv-loop μ-loop
 loop-less c = search needs
 
 loop-again : tie.Need-loop-again Inv-loop μ-loop
-loop-again c = let a = c .before .before .before .before .before .before .before .before .before .before .before .before .before .args in let l = c .before .before .before .before .before .before .before .before .before .before .before .loop in let (ts, u, so-far, run) = l .inv .2 in let (t, kept, more) = one-more (table (a .text .now) (take (a .n) (a .sizes))) so-far (c .before .before .before .before .before .before .before .before .before .before .loop-test .taken) ((c .before .before .before .before .before .before .before .before .read-table .ensures) .1 ts u) (c .before .before .before .before .before .before .step .given .1) in ((c .before .before .before .before .before .before .before .before .read-table .ensures) .0, omega (arith, kept .room), (_, used-more kept ts u, more, table-runs kept ts _ run (c .before .add-table .ensures)))
+loop-again c =
+    let a = c .before .before .before .before .before .before .before .before .before .before .before .before .before .args in
+    let l = c .before .before .before .before .before .before .before .before .before .before .before .loop in
+    let (ts, u, so-far, run) = l .inv .2 in
+    let (t, kept, more) = one-more (table (a .text .now) (take (a .n) (a .sizes))) so-far (c .before .before .before .before .before .before .before .before .before .before .loop-test .taken) ((c .before .before .before .before .before .before .before .before .read-table .ensures) .1 ts u) (c .before .before .before .before .before .before .step .given .1) in
+    ((c .before .before .before .before .before .before .before .before .read-table .ensures) .0, omega (arith, kept .room), (_, used-more kept ts u, more, table-runs kept ts _ run (c .before .add-table .ensures)))
 
 returns-2 : tie.Need-returns-2 Inv-loop μ-loop
-returns-2 c = let l = c .before .loop in let (ts, u, so-far, run) = l .inv .2 in all-read _ so-far _ (c .loop-test .left) run
+returns-2 c =
+    let l = c .before .loop in
+    let (ts, u, so-far, run) = l .inv .2 in
+    all-read _ so-far _ (c .loop-test .left) run
 
 pub read-tables-spec : {M : Type 1} → statement M
 read-tables-spec =

@@ -1,13 +1,11 @@
-use mathlib.Core.Path.{_≡_, sym, ap}
+-- `wcsp::tables::sort_by` meets its contract. Assumes nothing.
+use mathlib.Core.Path.{sym, ap}
 use mathlib.Core.Bool.{Bool, cond}
 use lib.Dec.{eqb}
 use borrow.Author.Tests.{eq-eqb, ne-eqb}
-use Rattle.meaning.specs.Calls.{Sort, allow, forbid}
-use borrow.Author.Needs.{needs}
+use Rattle.meaning.specs.Calls.{allow, forbid}
 use Rattle.wcsp.proofs.tables.sort_by.Statement.{statement}
 use Rattle.wcsp.proofs.tables.sort_by.Tie as tie
-use Rattle.wcsp.proofs.tables.sort_by.Reads as reads
-use Rattle.wcsp.proofs.tables.sort_by.Lts as lts
 
 returns : tie.Need-returns
 returns c = ap (λ (b : Bool). cond b forbid allow) (sym (eq-eqb (c .before .args .default) 0 (c .if1 .taken)))

@@ -1,4 +1,5 @@
-use mathlib.Core.Path.{_≡_, refl, sym, ap, _∙_}
+-- `wcsp::tuples::next_tuple` meets its contract. Assumes nothing.
+use mathlib.Core.Path.{_≡_, sym, _∙_}
 use mathlib.Core.Logic.{⊎-elim}
 use native.Mathlib.Omega.{arith}
 use lib.ListN.{length, take}
@@ -9,19 +10,14 @@ use Rattle.wcsp.proofs.Tupling.{no-tuple, no-cost, twice, fresh}
 use borrow.Author.Needs.{needs}
 use Rattle.wcsp.proofs.tuples.next_tuple.Statement.{statement}
 use Rattle.wcsp.proofs.tuples.next_tuple.Tie as tie
-use Rattle.wcsp.proofs.tuples.next_tuple.Reads as reads
-use Rattle.wcsp.proofs.tuples.next_tuple.Lts as lts
-use Rattle.text.proofs.skip_blanks.Reads as skip-blanks-reads
-use Rattle.wcsp.proofs.numbers.any_number.Reads as any-number-reads
-use Rattle.wcsp.proofs.tuples.listed.Reads as listed-reads
-use Rattle.wcsp.proofs.tuples.read_tuple.Reads as read-tuple-reads
-use Rattle.wcsp.proofs.tuples.says_same.Reads as says-same-reads
 
 mul-read-tuple : tie.Need-mul-read-tuple
 mul-read-tuple c = search needs
 
 read-tuple-requires : tie.Need-read-tuple-requires
-read-tuple-requires c κs = let p = c .before .before .pre in (p .0, p .1, p .2, p .3, p .4)
+read-tuple-requires c κs =
+    let p = c .before .before .pre in
+    (p .0, p .1, p .2, p .3, p .4)
 
 enum-known-step : tie.Need-enum-known-step
 enum-known-step c = search needs
@@ -30,7 +26,11 @@ enum-told : tie.Need-enum-told
 enum-told c = search needs
 
 returns : tie.Need-returns
-returns c = let a = c .before .before .before .before .before .args in let p = c .before .before .before .before .before .pre in let long : length (a .scope) ≡ 8 = search needs in no-tuple (a .text .now) (a .sizes) (take (a .arity) (a .scope)) (a .arity) (a .default) (a .at) (a .count) (a .cells .now) _ (length-take-le (a .arity) (a .scope) (omega (arith, long, p .2))) ((c .before .before .read-tuple .ensures) .0) ((c .before .before .read-tuple .ensures) .1) (c .enum-told .given .1)
+returns c =
+    let a = c .before .before .before .before .before .args in
+    let p = c .before .before .before .before .before .pre in
+    let long : length (a .scope) ≡ 8 = search needs in
+    no-tuple (a .text .now) (a .sizes) (take (a .arity) (a .scope)) (a .arity) (a .default) (a .at) (a .count) (a .cells .now) _ (length-take-le (a .arity) (a .scope) (omega (arith, long, p .2))) ((c .before .before .read-tuple .ensures) .0) ((c .before .before .read-tuple .ensures) .1) (c .enum-told .given .1)
 
 any-number-requires : tie.Need-any-number-requires
 any-number-requires c κs = search needs
@@ -42,22 +42,36 @@ enum-told-2 : tie.Need-enum-told-2
 enum-told-2 c = search needs
 
 returns-2 : tie.Need-returns-2
-returns-2 c = let a = c .before .before .before .before .before .before .before .before .before .args in let p = c .before .before .before .before .before .before .before .before .before .pre in let long : length (a .scope) ≡ 8 = search needs in no-cost (a .text .now) (a .sizes) (take (a .arity) (a .scope)) (a .arity) (a .default) (a .at) (a .count) (a .cells .now) _ (length-take-le (a .arity) (a .scope) (omega (arith, long, p .2))) ((c .before .before .before .before .before .before .read-tuple .ensures) .0) ((c .before .before .before .before .before .before .read-tuple .ensures) .1) (c .before .before .before .before .step .given .1) (c .before .before .any-number .ensures) (c .enum-told2 .given .1)
+returns-2 c =
+    let a = c .before .before .before .before .before .before .before .before .before .args in
+    let p = c .before .before .before .before .before .before .before .before .before .pre in
+    let long : length (a .scope) ≡ 8 = search needs in
+    no-cost (a .text .now) (a .sizes) (take (a .arity) (a .scope)) (a .arity) (a .default) (a .at) (a .count) (a .cells .now) _ (length-take-le (a .arity) (a .scope) (omega (arith, long, p .2))) ((c .before .before .before .before .before .before .read-tuple .ensures) .0) ((c .before .before .before .before .before .before .read-tuple .ensures) .1) (c .before .before .before .before .step .given .1) (c .before .before .any-number .ensures) (c .enum-told2 .given .1)
 
 says-same-requires : tie.Need-says-same-requires
 says-same-requires c κs = search needs
 
 listed-requires : tie.Need-listed-requires
-listed-requires c κs = let p = c .before .before .before .before .before .before .before .before .before .before .before .before .before .pre in (p .3, (c .before .before .before .before .before .before .before .before .before .before .read-tuple .ensures) .0 .long ∙ p .4)
+listed-requires c κs =
+    let p = c .before .before .before .before .before .before .before .before .before .before .before .before .before .pre in
+    (p .3, (c .before .before .before .before .before .before .before .before .before .before .read-tuple .ensures) .0 .long ∙ p .4)
 
 skip-blanks-requires : tie.Need-skip-blanks-requires
 skip-blanks-requires c κs = search needs
 
 returns-3 : tie.Need-returns-3
-returns-3 c = let a = c .before .before .before .before .before .before .before .before .before .before .before .before .before .args in let p = c .before .before .before .before .before .before .before .before .before .before .before .before .before .pre in let long : length (a .scope) ≡ 8 = search needs in twice (a .text .now) (a .sizes) (take (a .arity) (a .scope)) (a .arity) (a .default) (a .at) (a .count) (a .cells .now) _ (length-take-le (a .arity) (a .scope) (omega (arith, long, p .2))) ((c .before .before .before .before .before .before .before .before .before .before .read-tuple .ensures) .0) ((c .before .before .before .before .before .before .before .before .before .before .read-tuple .ensures) .1) (c .before .before .before .before .before .before .before .before .step .given .1) (c .before .before .before .before .before .before .any-number .ensures) (c .before .before .before .before .cost .given .1) (omega (arith, p .3, p .4)) _ (c .skip-blanks .ensures) (⊎-elim (λ w. far-first _ (sym (c .before .before .says-same .ensures) ∙ w .taken)) (λ w. far-then (sameSaid (a .default) (c .before .before .before .before .cost .given .0 .0)) (sym (w .2 .ensures) ∙ w .3 .taken)) (c .before .if1 .came))
+returns-3 c =
+    let a = c .before .before .before .before .before .before .before .before .before .before .before .before .before .args in
+    let p = c .before .before .before .before .before .before .before .before .before .before .before .before .before .pre in
+    let long : length (a .scope) ≡ 8 = search needs in
+    twice (a .text .now) (a .sizes) (take (a .arity) (a .scope)) (a .arity) (a .default) (a .at) (a .count) (a .cells .now) _ (length-take-le (a .arity) (a .scope) (omega (arith, long, p .2))) ((c .before .before .before .before .before .before .before .before .before .before .read-tuple .ensures) .0) ((c .before .before .before .before .before .before .before .before .before .before .read-tuple .ensures) .1) (c .before .before .before .before .before .before .before .before .step .given .1) (c .before .before .before .before .before .before .any-number .ensures) (c .before .before .before .before .cost .given .1) (omega (arith, p .3, p .4)) _ (c .skip-blanks .ensures) (⊎-elim (λ w. far-first _ (sym (c .before .before .says-same .ensures) ∙ w .taken)) (λ w. far-then (sameSaid (a .default) (c .before .before .before .before .cost .given .0 .0)) (sym (w .2 .ensures) ∙ w .3 .taken)) (c .before .if1 .came))
 
 returns-4 : tie.Need-returns-4
-returns-4 c = let a = c .before .before .before .before .before .before .before .before .before .before .before .before .before .before .before .args in let p = c .before .before .before .before .before .before .before .before .before .before .before .before .before .before .before .pre in let long : length (a .scope) ≡ 8 = search needs in fresh (a .text .now) (a .sizes) (take (a .arity) (a .scope)) (a .arity) (a .default) (a .at) (a .count) (a .cells .now) _ (length-take-le (a .arity) (a .scope) (omega (arith, long, p .2))) ((c .before .before .before .before .before .before .before .before .before .before .before .before .read-tuple .ensures) .0) ((c .before .before .before .before .before .before .before .before .before .before .before .before .read-tuple .ensures) .1) (c .before .before .before .before .before .before .before .before .before .before .step .given .1) (c .before .before .before .before .before .before .before .before .any-number .ensures) (c .before .before .before .before .before .before .cost .given .1) (omega (arith, p .3, p .4)) (near-both (sym (c .before .before .before .before .says-same .ensures) ∙ c .before .before .before .if1 .left) (sym (c .before .listed .ensures) ∙ c .if2 .left))
+returns-4 c =
+    let a = c .before .before .before .before .before .before .before .before .before .before .before .before .before .before .before .args in
+    let p = c .before .before .before .before .before .before .before .before .before .before .before .before .before .before .before .pre in
+    let long : length (a .scope) ≡ 8 = search needs in
+    fresh (a .text .now) (a .sizes) (take (a .arity) (a .scope)) (a .arity) (a .default) (a .at) (a .count) (a .cells .now) _ (length-take-le (a .arity) (a .scope) (omega (arith, long, p .2))) ((c .before .before .before .before .before .before .before .before .before .before .before .before .read-tuple .ensures) .0) ((c .before .before .before .before .before .before .before .before .before .before .before .before .read-tuple .ensures) .1) (c .before .before .before .before .before .before .before .before .before .before .step .given .1) (c .before .before .before .before .before .before .before .before .any-number .ensures) (c .before .before .before .before .before .before .cost .given .1) (omega (arith, p .3, p .4)) (near-both (sym (c .before .before .before .before .says-same .ensures) ∙ c .before .before .before .if1 .left) (sym (c .before .listed .ensures) ∙ c .if2 .left))
 
 pub next-tuple-spec : {M : Type 1} → statement M
 next-tuple-spec =

@@ -1,9 +1,10 @@
-use mathlib.Core.Path.{_≡_, refl, sym, ap, _∙_}
-use Prim.Native.Nat.{ℕ, _+_, _-_, _≤_, _<_}
+-- `wcsp::tuples::read_tuple` meets its contract. The loop: the first j values are read. Assumes nothing.
+use mathlib.Core.Path.{_≡_, ap}
+use Prim.Native.Nat.{ℕ, _-_, _<_}
 use native.Mathlib.Omega.{arith}
 use borrow.Author.Needs.{needs}
 use borrow.Author.Tests.{leb-false}
-use lib.ListN.{length, getD, take, drop}
+use lib.ListN.{getD, take, drop}
 use Rattle.wcsp.specs.Files.{valueTests}
 use Rattle.wcsp.specs.Steps.{Behind}
 use Rattle.wcsp.proofs.Coming.{number-is}
@@ -13,9 +14,6 @@ use Rattle.wcsp.proofs.Several.{NumbersSoFar, none-yet, next-number, fa
 use Rattle.wcsp.proofs.Tupling.{value-came}
 use Rattle.wcsp.proofs.tuples.read_tuple.Statement.{statement}
 use Rattle.wcsp.proofs.tuples.read_tuple.Tie as tie
-use Rattle.wcsp.proofs.tuples.read_tuple.Reads as reads
-use Rattle.wcsp.proofs.tuples.read_tuple.Lts as lts
-use Rattle.wcsp.proofs.numbers.number_below.Reads as number-below-reads
 
 abbrev Inv-loop : tie.InvT-loop
 Inv-loop text at arity cells₀ start sizes scope place₀ j₀ cells place j = Behind start cells₀ cells × NumbersSoFar text (valueTests sizes (take arity scope)) arity at j place (take j (drop start cells))
@@ -27,13 +25,22 @@ loop-holds : tie.Need-loop-holds Inv-loop μ-loop
 loop-holds c = (behind-none _ _, none-yet _ _ _)
 
 array-read-x : tie.Need-array-read-x Inv-loop μ-loop
-array-read-x c = let a = c .before .before .before .args in let p = c .before .before .before .pre in let l = c .before .loop in let few = l .inv .1 .few in search needs
+array-read-x c =
+    let a = c .before .before .before .args in
+    let p = c .before .before .before .pre in
+    let l = c .before .loop in
+    let few = l .inv .1 .few in
+    search needs
 
 cast-x : tie.Need-cast-x Inv-loop μ-loop
 cast-x c = search needs
 
 array-read-size : tie.Need-array-read-size Inv-loop μ-loop
-array-read-size c = let a = c .before .before .before .args in let p = c .before .before .before .pre in let l = c .before .loop in p .1 (l .j)
+array-read-size c =
+    let a = c .before .before .before .args in
+    let p = c .before .before .before .pre in
+    let l = c .before .loop in
+    p .1 (l .j)
 
 cast-size : tie.Need-cast-size Inv-loop μ-loop
 cast-size c = search needs
@@ -48,10 +55,19 @@ enum-told : tie.Need-enum-told Inv-loop μ-loop
 enum-told c = search needs
 
 returns : tie.Need-returns Inv-loop μ-loop
-returns c = let a = c .before .before .before .before .before .before .args in let p = c .before .before .before .before .before .before .pre in let l = c .before .before .before .before .loop in (l .inv .0, fault-there _ (l .inv .1) (c .before .before .before .loop-test .taken) (value-came (a .text .now) (a .t3) (a .t4) (l .cells) (a .start) (a .arity) (l .j) (l .place) (c .before .before .before .loop-test .taken) (p .2) (search needs) (omega (arith, l .inv .0 .long, p .3, p .4)) (c .before .before .number-below .ensures)) (c .enum-told .given .1))
+returns c =
+    let a = c .before .before .before .before .before .before .args in
+    let p = c .before .before .before .before .before .before .pre in
+    let l = c .before .before .before .before .loop in
+    (l .inv .0, fault-there _ (l .inv .1) (c .before .before .before .loop-test .taken) (value-came (a .text .now) (a .t3) (a .t4) (l .cells) (a .start) (a .arity) (l .j) (l .place) (c .before .before .before .loop-test .taken) (p .2) (search needs) (omega (arith, l .inv .0 .long, p .3, p .4)) (c .before .before .number-below .ensures)) (c .enum-told .given .1))
 
 cast-cells : tie.Need-cast-cells Inv-loop μ-loop
-cast-cells c = let a = c .before .before .before .before .before .before .before .args in let p = c .before .before .before .before .before .before .before .pre in let l = c .before .before .before .before .before .loop in let small : c .before .step .given .0 .0 < getD (a .t3) (getD (a .t4) (l .j) 0) 0 = leb-false _ _ (tests-passed _ _ _ (number-is (c .before .before .before .number-below .ensures) (c .before .step .given .1)) .0) in omega (arith, small, p .0 (getD (a .t4) (l .j) 0))
+cast-cells c =
+    let a = c .before .before .before .before .before .before .before .args in
+    let p = c .before .before .before .before .before .before .before .pre in
+    let l = c .before .before .before .before .before .loop in
+    let small : c .before .step .given .0 .0 < getD (a .t3) (getD (a .t4) (l .j) 0) 0 = leb-false _ _ (tests-passed _ _ _ (number-is (c .before .before .before .number-below .ensures) (c .before .step .given .1)) .0) in
+    omega (arith, small, p .0 (getD (a .t4) (l .j) 0))
 
 add-cells : tie.Need-add-cells Inv-loop μ-loop
 add-cells c = search needs
@@ -66,10 +82,19 @@ loop-less : tie.Need-loop-less Inv-loop μ-loop
 loop-less c = search needs
 
 loop-again : tie.Need-loop-again Inv-loop μ-loop
-loop-again c = let a = c .before .before .before .before .before .before .before .args in let p = c .before .before .before .before .before .before .before .pre in let l = c .before .before .before .before .before .loop in let v = c .before .step .given .0 .0 in (behind-set (l .j) v (l .inv .0), next-number _ _ (l .inv .1) (c .before .before .before .before .loop-test .taken) (value-came (a .text .now) (a .t3) (a .t4) (l .cells) (a .start) (a .arity) (l .j) (l .place) (c .before .before .before .before .loop-test .taken) (p .2) (search needs) (omega (arith, l .inv .0 .long, p .3, p .4)) (c .before .before .before .number-below .ensures)) _ (c .before .step .given .1) (put-from (l .cells) (a .start) (l .j) v (omega (arith, l .inv .0 .long, p .3, p .4, c .before .before .before .before .loop-test .taken))))
+loop-again c =
+    let a = c .before .before .before .before .before .before .before .args in
+    let p = c .before .before .before .before .before .before .before .pre in
+    let l = c .before .before .before .before .before .loop in
+    let v = c .before .step .given .0 .0 in
+    (behind-set (l .j) v (l .inv .0), next-number _ _ (l .inv .1) (c .before .before .before .before .loop-test .taken) (value-came (a .text .now) (a .t3) (a .t4) (l .cells) (a .start) (a .arity) (l .j) (l .place) (c .before .before .before .before .loop-test .taken) (p .2) (search needs) (omega (arith, l .inv .0 .long, p .3, p .4)) (c .before .before .before .number-below .ensures)) _ (c .before .step .given .1) (put-from (l .cells) (a .start) (l .j) v (omega (arith, l .inv .0 .long, p .3, p .4, c .before .before .before .before .loop-test .taken))))
 
 returns-2 : tie.Need-returns-2 Inv-loop μ-loop
-returns-2 c = let a = c .before .before .before .args in let l = c .before .loop in let all : l .j ≡ a .arity = omega (arith, l .inv .1 .few, c .loop-test .left) in (l .inv .0, all-read _ (l .inv .1) _ (c .loop-test .left) (ap (λ (k : ℕ). take k (drop (a .start) (l .cells))) all))
+returns-2 c =
+    let a = c .before .before .before .args in
+    let l = c .before .loop in
+    let all : l .j ≡ a .arity = omega (arith, l .inv .1 .few, c .loop-test .left) in
+    (l .inv .0, all-read _ (l .inv .1) _ (c .loop-test .left) (ap (λ (k : ℕ). take k (drop (a .start) (l .cells))) all))
 
 pub read-tuple-spec : {M : Type 1} → statement M
 read-tuple-spec =

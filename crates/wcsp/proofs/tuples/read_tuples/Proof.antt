@@ -1,6 +1,7 @@
+-- `wcsp::tuples::read_tuples` meets its contract. The loop: the first i tuples are read. Assumes nothing.
 use mathlib.Core.Path.{_≡_, _∙_, subst}
 use mathlib.Core.List.{List}
-use Prim.Native.Nat.{ℕ, _+_, _-_, _*_, _≤_, _<_}
+use Prim.Native.Nat.{ℕ, _-_}
 use native.Mathlib.Omega.{arith}
 use borrow.Author.Needs.{needs}
 use lib.ListN.{length, take}
@@ -11,9 +12,6 @@ use Rattle.wcsp.proofs.Heaping.{filled-none, filled-more, row-inside}
 use Rattle.wcsp.proofs.Several.{SoFar, none-yet, one-more, fault-there, all-read}
 use Rattle.wcsp.proofs.tuples.read_tuples.Statement.{statement}
 use Rattle.wcsp.proofs.tuples.read_tuples.Tie as tie
-use Rattle.wcsp.proofs.tuples.read_tuples.Reads as reads
-use Rattle.wcsp.proofs.tuples.read_tuples.Lts as lts
-use Rattle.wcsp.proofs.tuples.next_tuple.Reads as next-tuple-reads
 
 abbrev Inv-loop : tie.InvT-loop
 Inv-loop text at sizes scope arity default count cells₀ place₀ i₀ cells place i = (length cells ≡ roomLimit) × ((ts : List (List ℕ)) × Filled arity i ts cells × SoFar (tuple text sizes (take arity scope) default) count at i place ts)
@@ -25,7 +23,11 @@ loop-holds : tie.Need-loop-holds Inv-loop μ-loop
 loop-holds c = (c .before .pre .4, (_, filled-none _ _, none-yet _ _ _))
 
 next-tuple-requires : tie.Need-next-tuple-requires Inv-loop μ-loop
-next-tuple-requires c κs = let a = c .before .before .before .before .args in let p = c .before .before .before .before .pre in let l = c .before .before .loop in (p .0, p .1, p .2, omega (arith, row-inside (l .i) (a .count) (a .arity) (c .before .loop-test .taken), p .3), l .inv .0)
+next-tuple-requires c κs =
+    let a = c .before .before .before .before .args in
+    let p = c .before .before .before .before .pre in
+    let l = c .before .before .loop in
+    (p .0, p .1, p .2, omega (arith, row-inside (l .i) (a .count) (a .arity) (c .before .loop-test .taken), p .3), l .inv .0)
 
 enum-known-step : tie.Need-enum-known-step Inv-loop μ-loop
 enum-known-step c = search needs
@@ -34,7 +36,12 @@ enum-told : tie.Need-enum-told Inv-loop μ-loop
 enum-told c = search needs
 
 returns : tie.Need-returns Inv-loop μ-loop
-returns c = let a = c .before .before .before .before .before .before .before .args in let p = c .before .before .before .before .before .before .before .pre in let l = c .before .before .before .before .before .loop in let (ts, filled, so-far) = l .inv .1 in ((c .before .before .next-tuple .ensures) .behind .long ∙ l .inv .0, fault-there _ so-far (c .before .before .before .before .loop-test .taken) ((c .before .before .next-tuple .ensures) .comes ts filled) (c .enum-told .given .1))
+returns c =
+    let a = c .before .before .before .before .before .before .before .args in
+    let p = c .before .before .before .before .before .before .before .pre in
+    let l = c .before .before .before .before .before .loop in
+    let (ts, filled, so-far) = l .inv .1 in
+    ((c .before .before .next-tuple .ensures) .behind .long ∙ l .inv .0, fault-there _ so-far (c .before .before .before .before .loop-test .taken) ((c .before .before .next-tuple .ensures) .comes ts filled) (c .enum-told .given .1))
 
 add-i : tie.Need-add-i Inv-loop μ-loop
 add-i c = search needs
@@ -43,10 +50,22 @@ loop-less : tie.Need-loop-less Inv-loop μ-loop
 loop-less c = search needs
 
 loop-again : tie.Need-loop-again Inv-loop μ-loop
-loop-again c = let a = c .before .before .before .before .before .before .before .before .args in let p = c .before .before .before .before .before .before .before .before .pre in let l = c .before .before .before .before .before .before .loop in let (ts, filled, so-far) = l .inv .1 in let e = (c .before .before .before .next-tuple .ensures) in let (t, k, more) = one-more _ so-far (c .before .before .before .before .before .loop-test .taken) (e .comes ts filled) (c .before .step .given .1) in (e .behind .long ∙ l .inv .0, (_, filled-more (a .arity) (l .i) ts (l .cells) _ filled (e .behind) (omega (arith, row-inside (l .i) (a .count) (a .arity) (c .before .before .before .before .before .loop-test .taken), p .3, l .inv .0)) t k, more))
+loop-again c =
+    let a = c .before .before .before .before .before .before .before .before .args in
+    let p = c .before .before .before .before .before .before .before .before .pre in
+    let l = c .before .before .before .before .before .before .loop in
+    let (ts, filled, so-far) = l .inv .1 in
+    let e = (c .before .before .before .next-tuple .ensures) in
+    let (t, k, more) = one-more _ so-far (c .before .before .before .before .before .loop-test .taken) (e .comes ts filled) (c .before .step .given .1) in
+    (e .behind .long ∙ l .inv .0, (_, filled-more (a .arity) (l .i) ts (l .cells) _ filled (e .behind) (omega (arith, row-inside (l .i) (a .count) (a .arity) (c .before .before .before .before .before .loop-test .taken), p .3, l .inv .0)) t k, more))
 
 returns-2 : tie.Need-returns-2 Inv-loop μ-loop
-returns-2 c = let a = c .before .before .before .args in let l = c .before .loop in let (ts, filled, so-far) = l .inv .1 in let all : l .i ≡ a .count = omega (arith, so-far .few, c .loop-test .left) in (l .inv .0, all-read _ so-far _ (c .loop-test .left) (subst (λ (n : ℕ). Filled (a .arity) n ts (l .cells)) all filled))
+returns-2 c =
+    let a = c .before .before .before .args in
+    let l = c .before .loop in
+    let (ts, filled, so-far) = l .inv .1 in
+    let all : l .i ≡ a .count = omega (arith, so-far .few, c .loop-test .left) in
+    (l .inv .0, all-read _ so-far _ (c .loop-test .left) (subst (λ (n : ℕ). Filled (a .arity) n ts (l .cells)) all filled))
 
 pub read-tuples-spec : {M : Type 1} → statement M
 read-tuples-spec =
