@@ -1,5 +1,6 @@
 -- The laws behind the proofs of `wcsp`.
 pub mod Adding
+pub mod Cases
 pub mod Coming
 pub mod Heading
 pub mod Heaping
@@ -9,4 +10,5 @@ pub mod Several
 pub mod Sized
 pub mod Tabling
 pub mod Tupling
+pub mod Unique
 pub mod Wholes
