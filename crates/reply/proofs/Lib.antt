@@ -2,3 +2,6 @@
 pub mod Naming
 pub mod Replying
 pub mod Telling
+pub mod Surely
+pub mod Existing
+pub mod Unique

@@ -3,22 +3,21 @@ use mathlib.Core.Path.{_≡_, refl, sym, ap, _∙_}
 use mathlib.Core.Logic.{_⊎_, inl, inr, ⊎-elim, by-cases}
 use mathlib.Core.List.{List, [], _∷_}
 use Prim.Native.Nat.{ℕ, _+_, _*_, _^_, _≤_, _<_}
-use native.Mathlib.Decide.{ℕ-discrete, decLt}
+use native.Mathlib.Decide.{ℕ-discrete}
 use native.Mathlib.Omega.{arith}
-use borrow.Author.Tests.{le-leb, lt-leb, le-ltb, lt-ltb, eq-eqb, ne-eqb}
+use borrow.Author.Tests.{le-leb, lt-leb, eq-eqb, ne-eqb}
 use lib.ListN.{length, getD, set, take, length-append, length-set, List·getD-eq-default}
 use lib.Seq.{paste, getD-set-same, getD-set-other, length-take-le}
 use Rattle.meaning.specs.Limits.{valueLimit, variableLimit, decisionLimit}
-use Rattle.meaning.specs.Refusals.{number, first, noSuchVariable, outOfRange, tooManyDecisions, notLeft, tooDeep}
+use Rattle.meaning.specs.Refusals.{number, first, noSuchVariable, outOfRange, tooManyDecisions, notLeft}
 use Rattle.meaning.specs.Values.{bit, Has, Lacks}
 use Rattle.meaning.specs.Standing.{Standing, Decision, pinned, banned}
 use Rattle.meaning.specs.Lists.{Left, Largest, Cut}
-use Rattle.meaning.specs.Calls.{pin, ban, takeBack, unknown, tests, refusal, decide, decisionTests}
+use Rattle.meaning.specs.Calls.{pin, ban, unknown, tests, decide, decisionTests}
 use Rattle.meaning.specs.Proper.{Proper}
 use Rattle.meaning.proofs.Digits.{zero-bit, bit-cases, bit-pow-same, bit-pow-other, ext-all}
-use Rattle.meaning.proofs.Largest.{_⊑_, Between, largest-unique}
+use Rattle.meaning.proofs.Largest.{_⊑_, largest-unique}
 use Rattle.meaning.proofs.Proper.{leaves-proper, number-above}
-use Rattle.meaning.proofs.Solutions.{left-below}
 use Rattle.meaning.proofs.Steps.{cut-between, pin-cut, ban-cut}
 use Rattle.values.specs.Sets.{Alone, Removed}
 use Rattle.state.specs.declared.State.{State}
@@ -29,11 +28,11 @@ use Rattle.state.specs.declared.DecisionAnswer.{DecisionAnswer}
 use Rattle.state.specs.declared.DecisionAnswer.the-variants as DecisionAnswers
 use Rattle.state.specs.Layout.{rulesAt}
 use Rattle.state.specs.Filter.{LargestIn}
-use Rattle.state.specs.Holds.{Holds, block, zeroedFrom}
+use Rattle.state.specs.Holds.{Holds, block}
 use Rattle.state.specs.Promises.{Answers, TellsLeft, Tested, Narrowed, decisionNumber, tableOf}
 use Rattle.state.proofs.Answering.{finds, stays, accepts}
 use Rattle.state.proofs.Holding.{current}
-use Rattle.state.proofs.Depths.{first-within, within-first, settled, block-at, block-length, wide-block, lists-decided, lists-back}
+use Rattle.state.proofs.Depths.{first-within, within-first, settled, block-at, block-length, wide-block, lists-decided}
 use Rattle.state.proofs.Reading.{rules-held}
 
 -- ---- the tests
@@ -273,41 +272,3 @@ left-known s x m known e h w L l hold most = (
   sym (finds ((unknown w x, noSuchVariable) ∷ []) 0 (inr (lt-leb (length (w .declared)) x (omega (arith, hold .variables)), refl))),
   e ∙ sym (left-here s w L x hold most known),
 )
-
--- ---- taking back
-
-pub back-refused : (s : State) (k : ℕ) → s .depth < k → (w : Standing) (L : List ℕ) → Proper w → Holds s w → Largest w L → refusal w L (takeBack k) ≡ number tooDeep
-back-refused s k deep w L p hold most = finds (tests w L (takeBack k)) (number tooDeep) (inl (lt-ltb (length (w .decisions)) k (omega (arith, hold .depth)), refl))
-
-abbrev pub atDepth : State → ℕ → List ℕ → State
-atDepth s k l = record {
-  variables = s .variables;
-  declared = s .declared;
-  rules = s .rules;
-  heads = s .heads;
-  used = s .used;
-  room = s .room;
-  objectives = s .objectives;
-  objective = s .objective;
-  depth = k;
-  lists = l;
-}
-
-pub back-answers : (s : State) (k : ℕ) (l : List ℕ) → k ≤ s .depth → l ≡ zeroedFrom (s .lists) (variableLimit * k + variableLimit) → Answers s (takeBack k) 0 (atDepth s k l)
-back-answers s k l few e =
-    accepts s (takeBack k) (atDepth s k l) λ h w L r hold most.
-    let low : k ≤ length (w .decisions) = omega (arith, hold .depth) in (
-      finds (tests w L (takeBack k)) 0 (inr (le-ltb (length (w .decisions)) k low, refl)),
-      record {
-        variables = hold .variables;
-        declared = hold .declared;
-        rules = hold .rules;
-        heads = hold .heads;
-        used = hold .used;
-        room = hold .room;
-        objectives = hold .objectives;
-        objective = hold .objective;
-        depth = sym (length-take-le k (w .decisions) low);
-        lists = rw e (lists-back w (leaves-proper r) (s .lists) (hold .lists) k low);
-      },
-    )

@@ -6,6 +6,7 @@ pub mod Narrowing
 pub mod Passes
 pub mod Ways
 pub mod Walking
+pub mod TakingBack
 pub mod Tallies
 pub mod Supporting
 pub mod Sifting

@@ -11,3 +11,7 @@ pub mod Bounds
 pub mod Unique
 pub mod Faults
 pub mod Cases
+pub mod TokenKinds
+pub mod HandedOn
+pub mod TakenApart
+pub mod PutTogether

@@ -1,11 +1,12 @@
 // Text for every reader, by document 01's "Reading wcsp": the sorts of bytes, tokens, numbers and names.
 mod bytes;
+mod reading;
 mod tokens;
 mod words;
 
 pub use bytes::sort_of;
-pub use tokens::read_name;
-pub use tokens::read_number;
+pub use reading::read_name;
+pub use reading::read_number;
 pub use words::skip_blanks;
 
 // A mark is none of the digits; a token that holds a bad byte is malformed.

@@ -85,7 +85,7 @@ fn name_in(token: &[u8], start: usize) -> NameRead
 }
 
 // The next token from `at` on, as a number.
-pub fn read_number(text: &[u8], at: usize) -> NumberRead
+pub(crate) fn number_from(text: &[u8], at: usize) -> NumberRead
     ensures { λ r. ⌜ r ≡ numberAt (now (text .entry)) at ⌝ }
 {
     let start = skip_blanks(text, at);
@@ -94,7 +94,7 @@ pub fn read_number(text: &[u8], at: usize) -> NumberRead
 }
 
 // The next token from `at` on, as a name.
-pub fn read_name(text: &[u8], at: usize) -> NameRead
+pub(crate) fn name_from(text: &[u8], at: usize) -> NameRead
     ensures { λ r. ⌜ r ≡ nameAt (now (text .entry)) at ⌝ }
 {
     let start = skip_blanks(text, at);

@@ -1,5 +1,6 @@
-use Rattle.reply.proofs.Replying.{refused-replies, may-solve, accepted-replies}
+-- `reply::reply` meets its contract. Assumes nothing.
 use borrow.Author.Needs.{needs}
+use Rattle.reply.proofs.Replying.{refused-replies, may-solve, accepted-replies}
 use Rattle.reply.proofs.reply.Statement.{statement}
 use Rattle.reply.proofs.reply.Tie as tie
 
@@ -19,13 +20,20 @@ enum-told : tie.Need-enum-told
 enum-told c = search needs
 
 write-solved-requires : tie.Need-write-solved-requires
-write-solved-requires c κs = may-solve _ _ (c .before .before .before .before .read .ensures) (c .before .enum-told .given .1)
+write-solved-requires c κs =
+    let reads = c .before .before .before .before .read .ensures in
+    may-solve _ _ reads (c .before .enum-told .given .1)
 
 returns : tie.Need-returns
-returns c = refused-replies _ _ (c .before .before .before .before .before .before .before .read .ensures) (c .before .before .before .before .outcome .given .1) (c .before .before .number-of .ensures) (c .write-refused .ensures)
+returns c =
+    let reads = c .before .before .before .before .before .before .before .read .ensures in
+    let refused = c .before .before .before .before .outcome .given .1 in
+    refused-replies _ _ reads refused (c .before .before .number-of .ensures) (c .write-refused .ensures)
 
 returns-2 : tie.Need-returns-2
-returns-2 c = accepted-replies _ _ (c .before .before .before .before .before .read .ensures) (c .before .before .enum-told .given .1) (c .write-solved .ensures)
+returns-2 c =
+    let reads = c .before .before .before .before .before .read .ensures in
+    accepted-replies _ _ reads (c .before .before .enum-told .given .1) (c .write-solved .ensures)
 
 pub reply-spec : {M : Type 1} → statement M
 reply-spec =

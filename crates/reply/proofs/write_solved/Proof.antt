@@ -1,13 +1,14 @@
-use Rattle.lines.proofs.Putting.{written-fits}
-use Rattle.reply.specs.Replies.{upwards}
-use lib.ListN.{take}
+-- `reply::write_solved` meets its contract. Assumes nothing.
 use mathlib.Core.Path.{sym}
 use native.Mathlib.Omega.{arith}
+use borrow.Author.Needs.{needs}
+use lib.ListN.{take}
 use lib.Seq.{length-take-le}
 use Rattle.meaning.specs.Calls.{nameObjectives}
 use Rattle.state.proofs.Runs.{reached-after}
+use Rattle.lines.proofs.Putting.{written-fits}
+use Rattle.reply.specs.Replies.{upwards}
 use Rattle.reply.proofs.Telling.{told, found-tells, none-tells, never-refused}
-use borrow.Author.Needs.{needs}
 use Rattle.reply.proofs.write_solved.Statement.{statement}
 use Rattle.reply.proofs.write_solved.Tie as tie
 
@@ -18,7 +19,9 @@ array-share-prefix-first : tie.Need-array-share-prefix-first
 array-share-prefix-first c = search needs
 
 slice-aggregate-name-objectives : tie.Need-slice-aggregate-name-objectives
-slice-aggregate-name-objectives c = sym (length-take-le (c .before .objective-count .result) _ (omega (arith, (c .before .objective-count .ensures))))
+slice-aggregate-name-objectives c =
+    let count = c .before .objective-count in
+    sym (length-take-le (count .result) _ (omega (arith, (count .ensures))))
 
 name-objectives-requires : tie.Need-name-objectives-requires
 name-objectives-requires c κs = search needs
@@ -27,7 +30,10 @@ slice-aggregate-solve : tie.Need-slice-aggregate-solve
 slice-aggregate-solve c = search needs
 
 solve-requires : tie.Need-solve-requires
-solve-requires c κs = reached-after (nameObjectives (take (c .before .before .before .before .objective-count .result) (upwards 0 16))) (c .before .before .before .before .before .pre .0) (c .before .before .name-objectives .ensures)
+solve-requires c κs =
+    let count = c .before .before .before .before .objective-count in
+    let reached = c .before .before .before .before .before .pre .0 in
+    reached-after (nameObjectives (take (count .result) (upwards 0 16))) reached (c .before .before .name-objectives .ensures)
 
 enum-told : tie.Need-enum-told
 enum-told c = search needs
@@ -45,13 +51,35 @@ enum-told-3 : tie.Need-enum-told-3
 enum-told-3 c = search needs
 
 returns : tie.Need-returns
-returns c = (λ h w run l d o. let a = c .before .before .before .before .before .before .before .before .before .before .before .args in let p = c .before .before .before .before .before .before .before .before .before .before .before .pre in let s = told _ _ (a .n) _ _ (c .before .before .before .before .before .before .before .before .before .before .objective-count .ensures) (c .before .before .before .before .before .before .before .before .name-objectives .ensures) (c .before .before .before .before .before .solve .ensures) (c .before .before .enum-told .given .1) h w run l in found-tells w (a .n) d o s (c .write-rota .ensures), written-fits (c .write-rota .ensures))
+returns c =
+    let solved = c .before .before .before .before .before in
+    let named = solved .before .before .before in
+    let counted = named .before .before in
+    let n = counted .before .args .n in
+    let ready = told _ _ n _ _ (counted .objective-count .ensures) (named .name-objectives .ensures) in
+    let says = ready (solved .solve .ensures) (c .before .before .enum-told .given .1) in
+    (λ h w run l d o. found-tells w n d o (says h w run l) (c .write-rota .ensures), written-fits (c .write-rota .ensures))
 
 returns-2 : tie.Need-returns-2
-returns-2 c = (λ h w run l d o. let a = c .before .before .before .before .before .before .before .before .before .before .before .args in let p = c .before .before .before .before .before .before .before .before .before .before .before .pre in let s = told _ _ (a .n) _ _ (c .before .before .before .before .before .before .before .before .before .before .objective-count .ensures) (c .before .before .before .before .before .before .before .before .name-objectives .ensures) (c .before .before .before .before .before .solve .ensures) (c .before .before .enum-told2 .given .1) h w run l in none-tells w (a .n) d o s (c .write-inconsistent .ensures), written-fits (c .write-inconsistent .ensures))
+returns-2 c =
+    let solved = c .before .before .before .before .before in
+    let named = solved .before .before .before in
+    let counted = named .before .before in
+    let n = counted .before .args .n in
+    let ready = told _ _ n _ _ (counted .objective-count .ensures) (named .name-objectives .ensures) in
+    let says = ready (solved .solve .ensures) (c .before .before .enum-told2 .given .1) in
+    (λ h w run l d o. none-tells w n d o (says h w run l) (c .write-inconsistent .ensures), written-fits (c .write-inconsistent .ensures))
 
 returns-3 : tie.Need-returns-3
-returns-3 c = (λ h w run l d o. let a = c .before .before .before .before .before .before .before .before .before .args in let p = c .before .before .before .before .before .before .before .before .before .pre in let s = told _ _ (a .n) _ _ (c .before .before .before .before .before .before .before .before .objective-count .ensures) (c .before .before .before .before .before .before .name-objectives .ensures) (c .before .before .before .solve .ensures) (c .enum-told3 .given .1) h w run l in never-refused w (a .n) d o _ (p .1) (omega (arith, p .2)) s, omega arith)
+returns-3 c =
+    let solved = c .before .before .before in
+    let named = solved .before .before .before in
+    let counted = named .before .before in
+    let start = counted .before in
+    let n = start .args .n in
+    let ready = told _ _ n _ _ (counted .objective-count .ensures) (named .name-objectives .ensures) in
+    let says = ready (solved .solve .ensures) (c .enum-told3 .given .1) in
+    (λ h w run l d o. never-refused w n d o _ (start .pre .1) (omega (arith, start .pre .2)) (says h w run l), omega arith)
 
 pub write-solved-spec : {M : Type 1} → statement M
 write-solved-spec =

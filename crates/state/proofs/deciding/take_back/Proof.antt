@@ -4,7 +4,7 @@ use Rattle.meaning.specs.Calls.{takeBack}
 use Rattle.state.specs.declared.Refusal.the-variants.{TooDeep}
 use Rattle.state.proofs.Answering.{refuses}
 use Rattle.state.proofs.Holding.{sizes}
-use Rattle.state.proofs.Decisions.{back-refused, back-answers}
+use Rattle.state.proofs.TakingBack.{back-refused, back-answers}
 use borrow.Author.Needs.{needs}
 use Rattle.state.proofs.deciding.take_back.Statement.{statement}
 use Rattle.state.proofs.deciding.take_back.Tie as tie

@@ -1,4 +1,4 @@
--- `text::tokens::read_number` meets its contract. Assumes nothing.
+-- `text::tokens::number_from` meets its contract. Assumes nothing.
 use mathlib.Core.Path.{ap}
 use Prim.Native.Nat.{_^_}
 use native.Mathlib.Omega.{arith}
@@ -6,8 +6,8 @@ use borrow.Author.Needs.{needs}
 use lib.ListN.{length}
 use Rattle.text.specs.Tokens.{numberAt}
 use Rattle.text.proofs.Places.{end-fits}
-use Rattle.text.proofs.tokens.read_number.Statement.{statement}
-use Rattle.text.proofs.tokens.read_number.Tie as tie
+use Rattle.text.proofs.tokens.number_from.Statement.{statement}
+use Rattle.text.proofs.tokens.number_from.Tie as tie
 
 skip-blanks-requires : tie.Need-skip-blanks-requires
 skip-blanks-requires c κs = search needs
@@ -23,5 +23,5 @@ returns : tie.Need-returns
 unfolding numberAt
 returns c = cc
 
-pub read-number-spec : {M : Type 1} → statement M
-read-number-spec = tie.close (tie.spec skip-blanks-requires token-at-requires number-in-requires returns)
+pub number-from-spec : {M : Type 1} → statement M
+number-from-spec = tie.close (tie.spec skip-blanks-requires token-at-requires number-in-requires returns)

@@ -1,4 +1,4 @@
--- `text::tokens::read_name` meets its contract. Assumes nothing.
+-- `text::tokens::name_from` meets its contract. Assumes nothing.
 use mathlib.Core.Path.{ap}
 use Prim.Native.Nat.{_^_}
 use native.Mathlib.Omega.{arith}
@@ -6,8 +6,8 @@ use borrow.Author.Needs.{needs}
 use lib.ListN.{length}
 use Rattle.text.specs.Tokens.{nameAt}
 use Rattle.text.proofs.Places.{end-fits}
-use Rattle.text.proofs.tokens.read_name.Statement.{statement}
-use Rattle.text.proofs.tokens.read_name.Tie as tie
+use Rattle.text.proofs.tokens.name_from.Statement.{statement}
+use Rattle.text.proofs.tokens.name_from.Tie as tie
 
 skip-blanks-requires : tie.Need-skip-blanks-requires
 skip-blanks-requires c κs = search needs
@@ -23,5 +23,5 @@ returns : tie.Need-returns
 unfolding nameAt
 returns c = cc
 
-pub read-name-spec : {M : Type 1} → statement M
-read-name-spec = tie.close (tie.spec skip-blanks-requires token-at-requires name-in-requires returns)
+pub name-from-spec : {M : Type 1} → statement M
+name-from-spec = tie.close (tie.spec skip-blanks-requires token-at-requires name-in-requires returns)
