@@ -1,4 +1,4 @@
--- Keys of tuples, and a search from the last tuple to the first with a mark at each key passed. Assumes nothing.
+-- A search for a tuple that stands twice, from the last tuple to the first with a mark at each key passed. Assumes nothing.
 use mathlib.Core.Path.{_≡_, refl, sym, ap, ap₂, _∙_, subst}
 use mathlib.Core.Logic.{⊎-elim, by-cases}
 use mathlib.Core.Bool.{Bool, true, false, _||_, true≢false}
@@ -13,54 +13,11 @@ use lib.ListN.{length, getD, set, drop, length-set, length-drop, drop-of-length-
 use lib.Seq.{drop-cons, drop-drop, getD-set-same, getD-set-other}
 use Rattle.meaning.specs.Calls.{some, same, repeats}
 use Rattle.meaning.proofs.Tests.{and-left, and-right}
-use Rattle.state.specs.Checks.{tupleAt, tuplesIn, listedAgain, keyLimit, keyFrom}
-use Rattle.state.proofs.Searching.{earlier, some-none}
-use Rattle.state.proofs.Tuples.{cell, tuple-long, tuples-none, tuples-more, twice-search}
-
--- ---- a key, cell by cell
-
-module _ (n : ℕ) (cells : List ℕ) (place : ℕ) (fits : place + n ≤ length cells) (key j : ℕ) {w : ℕ} (rest : keyFrom key (drop j (tupleAt n cells place)) ≡ w) where
-  pub key-next : j < n → keyFrom ((key * 67 + getD cells (place + j) 0) % keyLimit) (drop (j + 1) (tupleAt n cells place)) ≡ w
-  unfolding keyFrom
-  key-next h =
-      let t = tupleAt n cells place in
-      let e = ap (keyFrom key) (drop-cons t j 0 (omega (arith, tuple-long n cells place fits))) in
-      rw (add-one j, sym (cell n cells place j h)) (sym e ∙ rest)
-
-  pub key-last : n ≤ j → key ≡ w
-  unfolding keyFrom
-  key-last h =
-      let past : length (tupleAt n cells place) ≤ j = omega (arith, tuple-long n cells place fits) in
-      sym (ap (keyFrom key) (drop-of-length-le (tupleAt n cells place) past)) ∙ rest
-
--- ---- marks
-
-pub same-is : (u v : List ℕ) → T (same u v) → u ≡ v
-unfolding same
-same-is [] [] t = refl
-same-is [] (y ∷ v) t = absurd t
-same-is (x ∷ u) [] t = absurd t
-same-is (x ∷ u) (y ∷ v) t =
-    ap₂ _∷_ (eqb→eq x y (and-left (eqb x y) (same u v) t)) (same-is u v (and-right (eqb x y) (same u v) t))
-
--- the key of each tuple is marked
-abbrev pub Marked : List Bool → List (List ℕ) → Type 0
-Marked marked ts = (u : List ℕ) → List·Memᴰ u ts → getD marked (keyFrom 0 u) false ≡ true
-
-pub unmarked : (marked : List Bool) (ts : List (List ℕ)) (u : List ℕ) → Marked marked ts → getD marked (keyFrom 0 u) false ≡ false → some (same u) ts ≡ false
-unmarked marked ts u m e = some-none (same u) ts (λ v i. differs v i (same u v) refl)
-  where
-    differs : (v : List ℕ) → List·Memᴰ v ts → (b : Bool) → same u v ≡ b → b ≡ false
-    differs v i false q = refl
-    differs v i true q = absurd (true≢false (sym (m v i) ∙ ap (λ (t : List ℕ). getD marked (keyFrom 0 t) false) (sym (same-is u v (subst T (sym q) tt))) ∙ e))
-
-pub marked-too : (marked : List Bool) (ts : List (List ℕ)) (u : List ℕ) → keyFrom 0 u < length marked → Marked marked ts → Marked (set marked (keyFrom 0 u) true) (u ∷ ts)
-marked-too marked ts u small m v i =
-    by-cases (ℕ-discrete (keyFrom 0 v) (keyFrom 0 u))
-    (λ q. ap (λ (k : ℕ). getD (set marked (keyFrom 0 u) true) k false) q ∙ getD-set-same marked (keyFrom 0 u) true false small)
-    (λ d. getD-set-other marked (keyFrom 0 u) (keyFrom 0 v) true false d ∙ ⊎-elim (λ q. absurd (d (ap (keyFrom 0) q))) (m v) (List·Memᴰ·cases-cons i))
-
--- ---- the search
+use Rattle.tuples.specs.Keys.{keyLimit, keyFrom, Marked}
+use Rattle.tuples.proofs.Marks.{unmarked, marked-too}
+use Rattle.state.specs.Checks.{tupleAt, tuplesIn, listedAgain}
+use Rattle.state.proofs.Searching.{earlier}
+use Rattle.state.proofs.Tuples.{tuples-none, tuples-more, twice-search}
 
 -- what holds once the tuples from a place on are passed: none of them stands twice, and their keys are marked
 pub record Passed (a : ℕ) (cells : List ℕ) (place : ℕ) (marked : List Bool) : Type 0 where

@@ -75,8 +75,3 @@ module _ {ℓ} {A : Type ℓ} {f : List A → Bool} {test : A → List A → Boo
 
     pub missed-at : length xs ≤ i → false ≡ w
     missed-at h = missed by-ones xs i rest (omega arith)
-
-pub some-none {ℓ} : {A : Type ℓ} (p : A → Bool) (xs : List A) → ((x : A) → List·Memᴰ x xs → p x ≡ false) → some p xs ≡ false
-unfolding some
-some-none p [] h = refl
-some-none p (x ∷ xs) h = rw (h x (List·Memᴰ·head refl), some-none p xs (λ y m. h y (List·Memᴰ·tail m)))

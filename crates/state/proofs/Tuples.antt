@@ -14,19 +14,6 @@ use Rattle.meaning.specs.Calls.{some, same, repeats, rows}
 use Rattle.state.specs.Checks.{tupleAt, tuplesIn}
 use Rattle.state.proofs.Searching.{Search}
 
--- ---- comparing two lists, place by place
-
-module _ (u v : List ℕ) (j : ℕ) {w : Bool} (rest : same (drop j u) (drop j v) ≡ w) where
-  here : j < length u → j < length v → (b : Bool) → eqb (getD u j 0) (getD v j 0) ≡ b → (b && same (drop (j + 1) u) (drop (j + 1) v)) ≡ w
-  unfolding same
-  here h k b e = rw (add-one j) (rw (sym e) (sym (ap₂ same (drop-cons u j 0 h) (drop-cons v j 0 k)) ∙ rest))
-
-  same-ends : length u ≤ j → length v ≤ j → true ≡ w
-  unfolding same
-  same-ends h k = sym (ap₂ same (drop-of-length-le u h) (drop-of-length-le v k)) ∙ rest
-
--- ---- the same for two tuples among the cells
-
 module _ (n : ℕ) (cells : List ℕ) where
   pub cell : (a j : ℕ) → j < n → getD (tupleAt n cells a) j 0 ≡ getD cells (a + j) 0
   cell a j h = getD-take n (drop a cells) j 0 h ∙ getD-drop a cells j 0
@@ -34,20 +21,9 @@ module _ (n : ℕ) (cells : List ℕ) where
   pub tuple-long : (a : ℕ) → a + n ≤ length cells → length (tupleAt n cells a) ≡ n
   tuple-long a h = length-take-le n (drop a cells) (omega (arith, length-drop a cells))
 
-  module _ (a b : ℕ) (fits : (a + n ≤ length cells) × (b + n ≤ length cells)) (j : ℕ) {w : Bool} (rest : same (drop j (tupleAt n cells a)) (drop j (tupleAt n cells b)) ≡ w) where
-    tested : j < n → (t : Bool) → eqb (getD cells (a + j) 0) (getD cells (b + j) 0) ≡ t → (t && same (drop (j + 1) (tupleAt n cells a)) (drop (j + 1) (tupleAt n cells b))) ≡ w
-    tested h t e =
-        here (tupleAt n cells a) (tupleAt n cells b) j rest (omega (arith, tuple-long a (fits .0))) (omega (arith, tuple-long b (fits .1))) t
-        (ap₂ eqb (cell a j h) (cell b j h) ∙ e)
-
-    pub tuple-passed : j < n → getD cells (a + j) 0 ≡ getD cells (b + j) 0 → same (drop (j + 1) (tupleAt n cells a)) (drop (j + 1) (tupleAt n cells b)) ≡ w
-    tuple-passed h e = tested h true (eq-eqb (getD cells (a + j) 0) (getD cells (b + j) 0) e)
-
-    pub tuple-differs : j < n → ¬ (getD cells (a + j) 0 ≡ getD cells (b + j) 0) → false ≡ w
-    tuple-differs h d = tested h false (ne-eqb (getD cells (a + j) 0) (getD cells (b + j) 0) d)
-
-    pub tuple-ends : n ≤ j → true ≡ w
-    tuple-ends h = same-ends (tupleAt n cells a) (tupleAt n cells b) j rest (omega (arith, tuple-long a (fits .0))) (omega (arith, tuple-long b (fits .1)))
+-- a part of the cells, as the code takes it, is the tuple at its place
+pub part-is : (n : ℕ) (cells : List ℕ) (a : ℕ) → take (a + n - a) (drop a cells) ≡ tupleAt n cells a
+part-is n cells a = let e : a + n - a ≡ n = omega arith in ap (λ (k : ℕ). take k (drop a cells)) e
 
 -- ---- tuples
 

@@ -1,7 +1,7 @@
 -- What the checks of a call's arguments speak of besides document 01's tests.
 use mathlib.Core.Bool.{Bool}
-use mathlib.Core.List.{List, [], _∷_}
-use Prim.Native.Nat.{ℕ, _+_, _*_, _/_, _%_}
+use mathlib.Core.List.{List}
+use Prim.Native.Nat.{ℕ, _+_, _/_}
 use lib.ListN.{length, take, drop}
 use Rattle.meaning.specs.Calls.{some, same, rows}
 
@@ -16,11 +16,3 @@ tuplesIn arity cells = rows (length cells / arity) arity cells
 -- the tuple at a place stands again after it
 abbrev pub listedAgain : ℕ → List ℕ → ℕ → Bool
 listedAgain arity cells place = some (same (tupleAt arity cells place)) (tuplesIn arity (drop (place + arity) cells))
-
--- a key of a tuple, from a key of what stands before it: the same tuples have the same key
-abbrev pub keyLimit : ℕ
-keyLimit = 16384
-
-unfoldable pub keyFrom : ℕ → List ℕ → ℕ
-keyFrom key [] = key
-keyFrom key (v ∷ t) = keyFrom ((key * 67 + v) % keyLimit) t

@@ -5,7 +5,10 @@ ghost use lib.Dec.{leb, eqb};
 ghost use lib.ListN.{length, getD, drop};
 ghost use Rattle.meaning.specs.Limits.{valueLimit, coefficientLimit, boundLimit};
 ghost use Rattle.meaning.specs.Calls.{some, same, repeats, beyond};
-ghost use Rattle.state.specs.Checks.{tupleAt, tuplesIn, listedAgain, keyLimit, keyFrom};
+ghost use Rattle.state.specs.Checks.{tuplesIn, listedAgain};
+use tuples::KEYS;
+use tuples::are_same;
+use tuples::key_of;
 
 // A value is below it.
 const VALUES: usize = 64;
@@ -14,9 +17,6 @@ const VALUES: usize = 64;
 pub(crate) const COEFFICIENT: i32 = 1000;
 
 pub(crate) const BOUND: i32 = 5_000_000;
-
-// A tuple's key is below it.
-const KEYS: usize = 16384;
 
 // Whether one of the numbers isn't below the limit.
 fn any_from(numbers: &[u8], limit: usize) -> bool
@@ -75,21 +75,6 @@ pub(crate) fn any_twice(variables: &[u8]) -> bool
     false
 }
 
-// Whether the tuples at two places are the same.
-fn same_tuple(cells: &[u8], a: usize, b: usize, arity: usize) -> bool
-    requires { ⌜ (a + arity ≤ length (now cells)) × (b + arity ≤ length (now cells)) ⌝ }
-    ensures { λ r. ⌜ r ≡ same (tupleAt arity (now (cells .entry)) a) (tupleAt arity (now (cells .entry)) b) ⌝ }
-{
-    let mut j = 0;
-    while j < arity {
-        if cells[a + j] != cells[b + j] {
-            return false;
-        }
-        j += 1;
-    }
-    true
-}
-
 // Whether the tuple at a place stands again after it.
 fn listed_again(cells: &[u8], place: usize, arity: usize) -> bool
     requires { ⌜ (0 < arity) × (place + arity ≤ length (now cells)) ⌝ }
@@ -97,26 +82,12 @@ fn listed_again(cells: &[u8], place: usize, arity: usize) -> bool
 {
     let mut other = place + arity;
     while arity <= cells.len() - other {
-        if same_tuple(cells, place, other, arity) {
+        if are_same(&cells[place..place + arity], &cells[other..other + arity]) {
             return true;
         }
         other += arity;
     }
     false
-}
-
-// A key of the tuple at a place: the same tuples have the same key, and few others share it.
-fn key_of(cells: &[u8], place: usize, arity: usize) -> usize
-    requires { ⌜ place + arity ≤ length (now cells) ⌝ }
-    ensures { λ r. ⌜ (r ≡ keyFrom 0 (tupleAt arity (now (cells .entry)) place)) × (r < keyLimit) ⌝ }
-{
-    let mut key: usize = 0;
-    let mut j = 0;
-    while j < arity {
-        key = (key * 67 + cells[place + j] as usize) % KEYS;
-        j += 1;
-    }
-    key
 }
 
 // Whether a tuple stands twice. It goes from the last tuple to the first, with a mark at the key of each that it passed:
@@ -129,7 +100,7 @@ pub(crate) fn tuple_twice(cells: &[u8], arity: usize) -> bool
     let mut place = cells.len();
     while 0 < place {
         place -= arity;
-        let key = key_of(cells, place, arity);
+        let key = key_of(&cells[place..place + arity]);
         if marked[key] && listed_again(cells, place, arity) {
             return true;
         }

@@ -5,6 +5,7 @@ pub mod Coming
 pub mod Heading
 pub mod Heaping
 pub mod Judging
+pub mod Keying
 pub mod Readings
 pub mod Several
 pub mod Sized

@@ -1,10 +1,12 @@
 -- What a step of the reader's code says of the reading that it stands for.
 use mathlib.Core.Path.{_≡_}
+use mathlib.Core.Bool.{Bool}
 use mathlib.Core.List.{List, List·Memᴰ}
 use Prim.Native.Nat.{ℕ, _+_, _*_, _≤_, _<_}
 use lib.ListN.{length, getD, take, drop}
 use Rattle.meaning.specs.Limits.{variableLimit, valueLimit, ruleLimit, roomLimit, arityLimit}
 use Rattle.meaning.specs.Refusals as Numbers
+use Rattle.tuples.specs.Keys.{keyLimit, Marked}
 use Rattle.state.specs.declared.Refusal.{Refusal}
 use Rattle.meaning.specs.Calls.{Sort}
 use Rattle.state.specs.Promises.{tableOf, sortSaid}
@@ -55,6 +57,15 @@ pub record Filled (a count : ℕ) (tuples : List (List ℕ)) (cells : List ℕ) 
   pub many : length tuples ≡ count
   pub even : (t : List ℕ) → List·Memᴰ t tuples → length t ≡ a
   pub cells-are : take (count * a) cells ≡ joined tuples
+
+-- marks at the keys of these tuples
+pub record Keyed (marked : List Bool) (tuples : List (List ℕ)) : Type 0 where
+  pub long : length marked ≡ keyLimit
+  pub marks : Marked marked tuples
+
+-- the same, where the step goes on
+pub record KeyedOn (tuples : List (List ℕ)) (marked : List Bool) (step : Step) : Type 0 where
+  pub on : (v place : ℕ) → step ≡ Read v place → Keyed marked tuples
 
 -- a tuple of a values behind the first `count` in the cells, whatever tuples those are
 pub record NextTuple (text sizes scope : List ℕ) (a default at count : ℕ) (before after : List ℕ) (step : Step) : Type 0 where

@@ -4,12 +4,12 @@ use state::Refusal;
 use state::State;
 
 mod header;
+mod listing;
 mod loading;
 mod numbers;
 mod scopes;
 mod sizes;
 mod tables;
-mod tuples;
 
 use loading::load;
 

@@ -3,8 +3,8 @@ use mathlib.Core.Path.{sym, ap}
 use mathlib.Core.Bool.{Bool, not, cond}
 use lib.Dec.{eqb}
 use borrow.Author.Tests.{eq-eqb, ne-eqb}
-use Rattle.wcsp.proofs.tuples.says_same.Statement.{statement}
-use Rattle.wcsp.proofs.tuples.says_same.Tie as tie
+use Rattle.wcsp.proofs.listing.says_same.Statement.{statement}
+use Rattle.wcsp.proofs.listing.says_same.Tie as tie
 
 returns : tie.Need-returns
 returns c =

@@ -12,8 +12,8 @@ use Rattle.wcsp.proofs.Judging.{tests-passed}
 use Rattle.wcsp.proofs.Heaping.{behind-none, behind-set}
 use Rattle.wcsp.proofs.Several.{NumbersSoFar, none-yet, next-number, fault-there, all-read, put-from}
 use Rattle.wcsp.proofs.Tupling.{value-came}
-use Rattle.wcsp.proofs.tuples.read_tuple.Statement.{statement}
-use Rattle.wcsp.proofs.tuples.read_tuple.Tie as tie
+use Rattle.wcsp.proofs.listing.read_tuple.Statement.{statement}
+use Rattle.wcsp.proofs.listing.read_tuple.Tie as tie
 
 abbrev Inv-loop : tie.InvT-loop
 Inv-loop text at arity cells₀ start sizes scope place₀ j₀ cells place j = Behind start cells₀ cells × NumbersSoFar text (valueTests sizes (take arity scope)) arity at j place (take j (drop start cells))

@@ -8,7 +8,7 @@ ghost use Rattle.meaning.specs.Calls.{some, same, rows};
 ghost use Rattle.state.specs.Layout.{joined};
 ghost use Rattle.wcsp.specs.Reading.{several, times};
 ghost use Rattle.wcsp.specs.Files.{valueTests, sameSaid, tuple};
-ghost use Rattle.wcsp.specs.Steps.{Comes, Under, Behind, Filled, NextTuple};
+ghost use Rattle.wcsp.specs.Steps.{Comes, Under, Behind, Filled, Keyed, KeyedOn, NextTuple};
 use crate::Step;
 use crate::numbers::any_number;
 use crate::numbers::number_below;
@@ -16,6 +16,9 @@ use meaning::ROOM;
 use meaning::VARIABLES;
 use state::Refusal;
 use text::skip_blanks;
+use tuples::KEYS;
+use tuples::are_same;
+use tuples::key_of;
 
 // One tuple, into the cells from a start on: each value below its variable's size.
 fn read_tuple(
@@ -46,35 +49,36 @@ fn read_tuple(
     Step::Read(arity, place)
 }
 
-// Whether the tuples at two places are the same.
-fn same_tuple(cells: &[u8; ROOM], a: usize, b: usize, arity: usize) -> bool
-    requires { ⌜ (a + arity ≤ length (now cells)) × (b + arity ≤ length (now cells)) ⌝ }
-    requires { ⌜ length (now cells) ≡ roomLimit ⌝ }
-    ensures { λ r. ⌜ r ≡ same (take arity (drop a (now (cells .entry)))) (take arity (drop b (now (cells .entry)))) ⌝ }
-{
-    let mut j = 0;
-    while j < arity {
-        if cells[a + j] != cells[b + j] {
-            return false;
-        }
-        j += 1;
-    }
-    true
-}
-
 // Whether the tuple behind the first `count` is one of them.
-fn listed(cells: &[u8; ROOM], count: usize, arity: usize) -> bool
+fn listed(cells: &[u8], count: usize, arity: usize) -> bool
     requires { ⌜ (count * arity + arity ≤ roomLimit) × (length (now cells) ≡ roomLimit) ⌝ }
     ensures { λ r. ⌜ r ≡ some (same (take arity (drop (count * arity) (now (cells .entry))))) (rows count arity (now (cells .entry))) ⌝ }
 {
     let last = count * arity;
     let mut i = 0;
     while i < count {
-        if same_tuple(cells, last, i * arity, arity) {
+        let at = i * arity;
+        if are_same(&cells[last..last + arity], &cells[at..at + arity]) {
             return true;
         }
         i += 1;
     }
+    false
+}
+
+// The same, with marks at the keys of the first `count`; its own key is marked too.
+fn listed_by_key(cells: &[u8], count: usize, arity: usize, marked: &mut [bool; KEYS]) -> bool
+    requires { ⌜ (count * arity + arity ≤ roomLimit) × (length (now cells) ≡ roomLimit) ⌝ }
+    requires { ⌜ Keyed (now marked) (rows count arity (now cells)) ⌝ }
+    ensures { λ r. ⌜ r ≡ some (same (take arity (drop (count * arity) (now (cells .entry))))) (rows count arity (now (cells .entry))) ⌝ }
+    ensures { λ r. ⌜ Keyed (now (marked .exit)) (rows (count + 1) arity (now (cells .entry))) ⌝ }
+{
+    let last = count * arity;
+    let key = key_of(&cells[last..last + arity]);
+    if marked[key] {
+        return listed(cells, count, arity);
+    }
+    marked[key] = true;
     false
 }
 
@@ -95,9 +99,12 @@ fn next_tuple(
     default: usize,
     cells: &mut [u8; ROOM],
     count: usize,
+    marked: &mut [bool; KEYS],
 ) -> Step
     requires { ⌜ Under 65 sizes × Under variableLimit scope × (arity ≤ arityLimit) × (count * arity + arity ≤ roomLimit) × (length (now cells) ≡ roomLimit) ⌝ }
+    requires { ⌜ Keyed (now marked) (rows count arity (now cells)) ⌝ }
     ensures { λ r. ⌜ NextTuple (now (text .entry)) sizes (take arity scope) arity default at count (now (cells .entry)) (now (cells .exit)) r ⌝ }
+    ensures { λ r. ⌜ KeyedOn (rows (count + 1) arity (now (cells .exit))) (now (marked .exit)) r ⌝ }
 {
     let step = read_tuple(text, at, sizes, scope, arity, cells, count * arity);
     let Step::Read(_, to_cost) = step else {
@@ -107,7 +114,7 @@ fn next_tuple(
     let Step::Read(said, after) = cost else {
         return cost;
     };
-    if says_same(default, said) || listed(cells, count, arity) {
+    if says_same(default, said) || listed_by_key(cells, count, arity, marked) {
         return Step::Fault(Refusal::TupleTwice, skip_blanks(text, at));
     }
     Step::Read(0, after)
@@ -127,10 +134,21 @@ pub(crate) fn read_tuples(
     requires { ⌜ Under 65 sizes × Under variableLimit scope × (arity ≤ arityLimit) × (count * arity ≤ roomLimit) × (length (now cells) ≡ roomLimit) ⌝ }
     ensures { λ r. ⌜ (length (now (cells .exit)) ≡ roomLimit) × Comes (times (tuple (now (text .entry)) sizes (take arity scope) default) count [] at) (λ ts v. Filled arity count ts (now (cells .exit))) r ⌝ }
 {
+    let mut marked = [false; KEYS];
     let mut place = at;
     let mut i = 0;
     while i < count {
-        let step = next_tuple(text, place, sizes, scope, arity, default, cells, i);
+        let step = next_tuple(
+            text,
+            place,
+            sizes,
+            scope,
+            arity,
+            default,
+            cells,
+            i,
+            &mut marked,
+        );
         let Step::Read(_, after) = step else {
             return step;
         };

@@ -1,0 +1,2 @@
+-- The definitions that the contracts of `tuples` cite.
+pub mod Keys
