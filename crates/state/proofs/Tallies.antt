@@ -8,13 +8,13 @@ use native.Mathlib.Decide.{ℕ-discrete, decLt}
 use native.Mathlib.Omega.{arith}
 use borrow.Author.Tests.{eq-eqb, ne-eqb}
 use lib.Dec.{eqb}
-use lib.ListN.{length, getD, set, take, drop, replicate, length-set, length-take}
+use lib.ListN.{length, getD, set, take, drop, replicate, length-set, length-take, length-replicate}
 use lib.Seq.{getD-set-same, getD-set-other}
 use Rattle.meaning.specs.Limits.{valueLimit}
 use Rattle.meaning.specs.Calls.{rows}
 use Rattle.meaning.proofs.Counting.{one, count-le}
 use Rattle.meaning.proofs.Listed.{live}
-use Rattle.state.specs.Tables.{Tallying, Counted, cell, places}
+use Rattle.state.specs.Tables.{Tallying, Counted, Blank, cell, places}
 use Rattle.state.proofs.Passes.{passed, zeros-at, live-more, dead-more}
 
 -- ---- one tuple
@@ -60,9 +60,12 @@ module _ (w : ℕ → ℕ) (O : List ℕ) where
 
 -- ---- tuple after tuple
 
+pub blank-new : (arity n : ℕ) → arity * valueLimit ≤ n → Blank arity (replicate n 0)
+blank-new arity n h = record { long = omega (arith, length-replicate {A = ℕ} n 0); zeros = zeros-at n }
+
 module _ (room masks : List ℕ) (first arity tuples : ℕ) where
-  pub counted-none : (n : ℕ) → Counted masks arity (passed room first arity tuples 0) (replicate n 0)
-  counted-none n j h v l = zeros-at n (cell j v)
+  pub counted-none : (counts : List ℕ) → Blank arity counts → Counted masks arity (passed room first arity tuples 0) counts
+  counted-none counts b j h v l = b .zeros (cell j v)
 
   -- no count is above the number of tuples passed
   pub counted-few : (k : ℕ) (C : List ℕ) → Counted masks arity (passed room first arity tuples k) C

@@ -80,6 +80,11 @@ abbrev pub Counted : List ℕ → ℕ → List (List ℕ) → List ℕ → Type 
 Counted masks arity ts counts =
     (j : ℕ) → j < arity → (v : ℕ) → v < valueLimit → getD counts (cell j v) 0 ≡ liveWith masks (places arity) j v ts
 
+-- room for the counts at so many places, all 0
+pub record Blank (arity : ℕ) (counts : List ℕ) : Type 0 where
+  pub long : arity * valueLimit ≤ length counts
+  pub zeros : (i : ℕ) → getD counts i 0 ≡ 0
+
 -- the values of m that are counted fewer than so many times at the place j
 abbrev pub FewerAt : List ℕ → ℕ → ℕ → ℕ → ℕ → Type 0
 FewerAt counts j limit m r = (v : ℕ) → bit r v ≡ min (bit m v) (one (ltb (getD counts (cell j v) 0) limit))
@@ -87,3 +92,9 @@ FewerAt counts j limit m r = (v : ℕ) → bit r v ≡ min (bit m v) (one (ltb (
 -- for each place those of its mask that are counted there fewer times than there are ways
 abbrev pub Fewer : List ℕ → ℕ → List ℕ → List ℕ → List ℕ → Type 0
 Fewer masks arity counts ways left = (j : ℕ) → j < arity → FewerAt counts j (getD ways j 0) (getD masks j 0) (getD left j 0)
+
+-- for each place the values that counting leaves to it
+pub record LeftBy (masks : List ℕ) (arity : ℕ) (ts : List (List ℕ)) (ways left : List ℕ) : Type 0 where
+  pub counts : List ℕ
+  pub counted : Counted masks arity ts counts
+  pub fewer : Fewer masks arity counts ways left

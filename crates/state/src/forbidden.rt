@@ -11,7 +11,7 @@ ghost use Rattle.meaning.specs.Limits.{valueLimit, arityLimit, roomLimit};
 ghost use Rattle.meaning.specs.Calls.{rows};
 ghost use Rattle.meaning.proofs.Listed.{productBut};
 ghost use Rattle.state.specs.Filter.{Filtering, Ready};
-ghost use Rattle.state.specs.Tables.{Cells, Tuples, Products, Tallying, Counted, FewerAt, Fewer, cell, places, forbiddenAt};
+ghost use Rattle.state.specs.Tables.{Cells, Tuples, Products, Tallying, Counted, Blank, FewerAt, Fewer, LeftBy, cell, places, forbiddenAt};
 
 // In how many ways values can be chosen from all masks but the j-th.
 fn ways_but(masks: &[u64; 8], arity: usize, j: usize) -> usize
@@ -60,7 +60,7 @@ fn too_few(tuples: usize, ways: &[usize; 8], arity: usize) -> bool
 
 // Counts each value of the tuple at its place.
 fn tally(room: &[u16], at: usize, arity: usize, counts: &mut [u16])
-    requires { ⌜ Cells (now room) at arity valueLimit × (length (now counts) ≡ arityLimit * valueLimit) ⌝ }
+    requires { ⌜ Cells (now room) at arity valueLimit × (arity * valueLimit ≤ length (now counts)) ⌝ }
     requires { ⌜ ((j : ℕ) → j < arity → getD (now counts) (cell j (getD (now room) (at + j) 0)) 0 < roomLimit) ⌝ }
     ensures { λ r. ⌜ Tallying (now (room .entry)) at arity (now (counts .entry)) (now (counts .exit)) ⌝ }
 {
@@ -71,33 +71,32 @@ fn tally(room: &[u16], at: usize, arity: usize, counts: &mut [u16])
     }
 }
 
-// For each place and value the number of live tuples that have it there.
+// For each place and value the number of live tuples that have it there, in counts that are 0.
 fn count_live(
     room: &[u16],
     first: usize,
     arity: usize,
     tuples: usize,
     masks: &[u64; 8],
-) -> [u16; 512]
-    requires { ⌜ Tuples (now room) first arity tuples × (tuples ≤ roomLimit) ⌝ }
-    ensures { λ r. ⌜ Counted (now (masks .entry)) arity (rows tuples arity (drop first (now (room .entry)))) r ⌝ }
+    counts: &mut [u16],
+)
+    requires { ⌜ Tuples (now room) first arity tuples × (tuples ≤ roomLimit) × Blank arity (now counts) ⌝ }
+    ensures { λ r. ⌜ Counted (now (masks .entry)) arity (rows tuples arity (drop first (now (room .entry)))) (now (counts .exit)) ⌝ }
 {
-    let mut counts = [0u16; 512];
     let mut at = first;
     let mut k = 0;
     while k < tuples {
         if is_live(room, at, arity, masks) {
-            tally(room, at, arity, &mut counts);
+            tally(room, at, arity, counts);
         }
         at += arity;
         k += 1;
     }
-    counts
 }
 
 // The values of the set m that are counted fewer than limit times at place j.
 fn fewer(m: u64, counts: &[u16], j: usize, limit: usize) -> u64
-    requires { ⌜ (j < arityLimit) × (length (now counts) ≡ arityLimit * valueLimit) ⌝ }
+    requires { ⌜ (j < arityLimit) × (j * valueLimit + valueLimit ≤ length (now counts)) ⌝ }
     ensures { λ r. ⌜ FewerAt (now (counts .entry)) j limit m r ⌝ }
 {
     let mut kept = 0;
@@ -114,7 +113,7 @@ fn fewer(m: u64, counts: &[u16], j: usize, limit: usize) -> u64
 
 // For each place the values of its mask that a way to choose the others supports.
 fn supported(masks: &[u64; 8], arity: usize, counts: &[u16], ways: &[usize; 8]) -> [u64; 8]
-    requires { ⌜ (arity ≤ arityLimit) × (length (now counts) ≡ arityLimit * valueLimit) ⌝ }
+    requires { ⌜ (arity ≤ arityLimit) × (arity * valueLimit ≤ length (now counts)) ⌝ }
     ensures { λ r. ⌜ Fewer (now (masks .entry)) arity (now (counts .entry)) (now (ways .entry)) r ⌝ }
 {
     let mut left = [0u64; 8];
@@ -124,6 +123,43 @@ fn supported(masks: &[u64; 8], arity: usize, counts: &[u16], ways: &[usize; 8]) 
         j += 1;
     }
     left
+}
+
+// For each place the values left to it, by counts that are 0 at first.
+fn left_by(
+    room: &[u16],
+    first: usize,
+    arity: usize,
+    tuples: usize,
+    masks: &[u64; 8],
+    ways: &[usize; 8],
+    counts: &mut [u16],
+) -> [u64; 8]
+    requires { ⌜ Tuples (now room) first arity tuples × (tuples ≤ roomLimit) × Blank arity (now counts) × (arity ≤ arityLimit) ⌝ }
+    ensures { λ r. ⌜ LeftBy (now (masks .entry)) arity (rows tuples arity (drop first (now (room .entry)))) (now (ways .entry)) r ⌝ }
+{
+    count_live(room, first, arity, tuples, masks, counts);
+    supported(masks, arity, counts, ways)
+}
+
+// The same. Few places need few counts, and clearing them is most of the work for a pair of variables.
+fn left_of(
+    room: &[u16],
+    first: usize,
+    arity: usize,
+    tuples: usize,
+    masks: &[u64; 8],
+    ways: &[usize; 8],
+) -> [u64; 8]
+    requires { ⌜ Tuples (now room) first arity tuples × (tuples ≤ roomLimit) × (arity ≤ arityLimit) ⌝ }
+    ensures { λ r. ⌜ LeftBy (now (masks .entry)) arity (rows tuples arity (drop first (now (room .entry)))) (now (ways .entry)) r ⌝ }
+{
+    if arity <= 2 {
+        let mut few = [0u16; 128];
+        return left_by(room, first, arity, tuples, masks, ways, &mut few);
+    }
+    let mut counts = [0u16; 512];
+    left_by(room, first, arity, tuples, masks, ways, &mut counts)
 }
 
 // Drops from the lists of the rule's variables what has no support. The answer is the set of the variables whose lists change.
@@ -143,7 +179,6 @@ pub(crate) fn filter(
     if too_few(tuples, &ways, arity) {
         return 0;
     }
-    let counts = count_live(room, start + arity, arity, tuples, &masks);
-    let left = supported(&masks, arity, &counts, &ways);
+    let left = left_of(room, start + arity, arity, tuples, &masks, &ways);
     keep_each(room, start, arity, &left, lists)
 }
