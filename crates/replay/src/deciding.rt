@@ -1,0 +1,56 @@
+// Pins, bans and take-backs.
+ghost use Prim.Native.Nat.{_≤_};
+ghost use lib.ListN.{length};
+ghost use Rattle.state.specs.Holds.{Reached};
+use crate::arguments::last_number;
+use crate::arguments::last_pair;
+use crate::desk::Desk;
+use crate::desk::moved;
+use crate::desk::stopped;
+use crate::numbers::MOST;
+use crate::saying;
+
+// `pin VARIABLE VALUE`
+pub(crate) fn pin(desk: Desk, line: &[u8], at: usize) -> Desk
+    requires { ⌜ Reached (desk .state) × (at ≤ length (now line)) ⌝ }
+    ensures { λ r. ⌜ Reached (r .state) ⌝ }
+{
+    let pair = last_pair(line, at);
+    if !pair.fits {
+        return stopped(desk);
+    }
+    let after = state::pin(desk.state, pair.variable, pair.value);
+    let answer = after.answer;
+    saying::decided(answer);
+    moved(desk, after.state)
+}
+
+// `ban VARIABLE VALUE`
+pub(crate) fn ban(desk: Desk, line: &[u8], at: usize) -> Desk
+    requires { ⌜ Reached (desk .state) × (at ≤ length (now line)) ⌝ }
+    ensures { λ r. ⌜ Reached (r .state) ⌝ }
+{
+    let pair = last_pair(line, at);
+    if !pair.fits {
+        return stopped(desk);
+    }
+    let after = state::ban(desk.state, pair.variable, pair.value);
+    let answer = after.answer;
+    saying::decided(answer);
+    moved(desk, after.state)
+}
+
+// `back DEPTH`
+pub(crate) fn take_back(desk: Desk, line: &[u8], at: usize) -> Desk
+    requires { ⌜ Reached (desk .state) × (at ≤ length (now line)) ⌝ }
+    ensures { λ r. ⌜ Reached (r .state) ⌝ }
+{
+    let depth = last_number(line, at, MOST);
+    if !depth.fits {
+        return stopped(desk);
+    }
+    let after = state::take_back(desk.state, depth.value as usize);
+    let answer = after.answer;
+    saying::answered(answer);
+    moved(desk, after.state)
+}

@@ -1,0 +1,74 @@
+// The lines that the program writes.
+use state::Answer;
+use state::DecisionAnswer;
+use state::Refusal;
+
+pub(crate) fn say(text: &[u8]) {
+    io::write_all(libc::STDOUT_FILENO, text);
+}
+
+// Writes a number, with no line end.
+fn say_number(n: u64) {
+    io::print_decimal(libc::STDOUT_FILENO, n);
+}
+
+pub(crate) fn too_long() {
+    say(b"too long\n");
+}
+
+pub(crate) fn bad_script(at: usize) {
+    say(b"bad script at ");
+    say_number(at as u64);
+    say(b"\n");
+}
+
+pub(crate) fn refused(refusal: Refusal) {
+    say(b"refused ");
+    say_number(number_of(refusal));
+    say(b"\n");
+}
+
+// Document 01's number of a refusal.
+fn number_of(refusal: Refusal) -> u64 {
+    match refusal {
+        Refusal::NoSuchVariable => 1,
+        Refusal::VariableTwice => 2,
+        Refusal::WrongLength => 3,
+        Refusal::OutOfRange => 4,
+        Refusal::TupleTwice => 5,
+        Refusal::Full => 6,
+        Refusal::Malformed => 7,
+        Refusal::NotLeft => 8,
+        Refusal::TooManyDecisions => 9,
+        Refusal::TooDeep => 10,
+        Refusal::ShortBuffer => 11,
+        Refusal::NoObjective => 12,
+        Refusal::Decided => 13,
+    }
+}
+
+pub(crate) fn answered(answer: Answer) {
+    match answer {
+        Answer::Accepted => say(b"ok\n"),
+        Answer::Refused(refusal) => refused(refusal),
+    }
+}
+
+pub(crate) fn decided(answer: DecisionAnswer) {
+    match answer {
+        DecisionAnswer::Accepted => say(b"ok\n"),
+        DecisionAnswer::Refused(refusal) => refused(refusal),
+    }
+}
+
+pub(crate) fn left(mask: u64) {
+    say(b"left ");
+    io::print_hex(libc::STDOUT_FILENO, mask, 16);
+    say(b"\n");
+}
+
+// Writes a value after one space.
+pub(crate) fn say_field(value: u8) {
+    say(b" ");
+    say_number(value as u64);
+}
