@@ -1,14 +1,14 @@
 -- What the sums of the number readers come to. Assumes nothing.
-use mathlib.Core.Path.{_≡_, refl, ap, ap₂, _∙_, subst⁻¹}
-use Prim.Native.Nat.{ℕ, zero, suc, _+_, _-_, _*_, _/_, _^_, _≤_, _<_}
+use mathlib.Core.Path.{_≡_, ap, _∙_, subst⁻¹}
+use Prim.Native.Nat.{ℕ, zero, suc, _+_, _-_, _*_, _/_, _≤_}
 use native.Mathlib.Omega.{arith}
 use native.Mathlib.Nat.{div-mul-le-self, mul-le-mul-right}
 use borrow.Author.Tests.{lt-ltb}
+use mir.Syntax.{w32, w64}
+use mir.Val.{SFits, toZ, ofZ}
+use mir.ValLaws.{toZ-ofZ, toZ-pos}
 use lib.IntN.{ℤ, pos, negsuc, _-ℤ_}
 use lib.Dec.{lit<}
-use mir.Syntax.{w32, w64}
-use mir.Val.{SFits, toZ, ofZ, hbits}
-use mir.ValLaws.{toZ-ofZ, toZ-pos}
 
 -- one digit more stays within the limit
 pub within-limit : (limit base value digit : ℕ) → value ≤ (limit - digit) / base → digit ≤ limit → value * base + digit ≤ limit

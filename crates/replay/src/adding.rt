@@ -6,8 +6,8 @@ use crate::arguments::last_mask;
 use crate::arguments::last_signed;
 use crate::desk::Desk;
 use crate::desk::counted;
-use crate::desk::moved;
 use crate::desk::stopped;
+use crate::desk::with_state;
 use crate::lists::bytes;
 use crate::lists::integers;
 use crate::lists::read_bytes;
@@ -77,7 +77,7 @@ fn table_added(desk: Desk, sort: Sort, scope: &[u8], cells: &[u8]) -> Desk
     let after = state::add_table(desk.state, sort, scope, cells);
     let answer = after.answer;
     saying::answered(answer);
-    moved(desk, after.state)
+    with_state(desk, after.state)
 }
 
 // `linear VARIABLES.. : COEFFICIENTS.. : BOUND`
@@ -105,7 +105,7 @@ fn linear_added(desk: Desk, scope: &[u8], coefficients: &[i32], bound: i32) -> D
     let after = state::add_linear(desk.state, scope, coefficients, bound);
     let answer = after.answer;
     saying::answered(answer);
-    moved(desk, after.state)
+    with_state(desk, after.state)
 }
 
 // `obj VARIABLES..`
@@ -129,5 +129,5 @@ fn objectives_named(desk: Desk, variables: &[u8]) -> Desk
     let after = state::name_objectives(desk.state, variables);
     let answer = after.answer;
     saying::answered(answer);
-    moved(desk, after.state)
+    with_state(desk, after.state)
 }

@@ -5,8 +5,8 @@ ghost use Rattle.state.specs.Holds.{Reached};
 use crate::arguments::last_number;
 use crate::arguments::last_pair;
 use crate::desk::Desk;
-use crate::desk::moved;
 use crate::desk::stopped;
+use crate::desk::with_state;
 use crate::numbers::MOST;
 use crate::saying;
 
@@ -22,7 +22,7 @@ pub(crate) fn pin(desk: Desk, line: &[u8], at: usize) -> Desk
     let after = state::pin(desk.state, pair.variable, pair.value);
     let answer = after.answer;
     saying::decided(answer);
-    moved(desk, after.state)
+    with_state(desk, after.state)
 }
 
 // `ban VARIABLE VALUE`
@@ -37,7 +37,7 @@ pub(crate) fn ban(desk: Desk, line: &[u8], at: usize) -> Desk
     let after = state::ban(desk.state, pair.variable, pair.value);
     let answer = after.answer;
     saying::decided(answer);
-    moved(desk, after.state)
+    with_state(desk, after.state)
 }
 
 // `back DEPTH`
@@ -52,5 +52,5 @@ pub(crate) fn take_back(desk: Desk, line: &[u8], at: usize) -> Desk
     let after = state::take_back(desk.state, depth.value as usize);
     let answer = after.answer;
     saying::answered(answer);
-    moved(desk, after.state)
+    with_state(desk, after.state)
 }

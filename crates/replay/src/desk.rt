@@ -40,7 +40,7 @@ pub(crate) fn stopped(desk: Desk) -> Desk
 }
 
 // The call left this state.
-pub(crate) fn moved(desk: Desk, state: State) -> Desk
+pub(crate) fn with_state(desk: Desk, state: State) -> Desk
     requires { ⌜ Reached state ⌝ }
     ensures { λ r. ⌜ Reached (r .state) ⌝ }
 {

@@ -18,12 +18,14 @@ pub(crate) struct List {
     pub(crate) after: usize,
 }
 
+// Room for a list of bytes.
 pub(crate) fn bytes() -> [u8; NUMBERS]
     ensures { λ r. ⌜ 16384 ≡ length r ⌝ }
 {
     [0; NUMBERS]
 }
 
+// Room for a list of numbers with signs.
 pub(crate) fn integers() -> [i32; NUMBERS]
     ensures { λ r. ⌜ 16384 ≡ length r ⌝ }
 {

@@ -67,11 +67,11 @@ fn run_line(desk: Desk, line: &[u8]) -> Desk
     if is_word(line, word, b"compare") {
         return asking::compare(desk, line, at);
     }
-    run_question(desk, line)
+    run_on_network(desk, line)
 }
 
-// Makes the call that a line says, where it adds nothing.
-fn run_question(desk: Desk, line: &[u8]) -> Desk
+// Makes the call that a line says of the network as it stands: to decide, to take back, to ask or to solve.
+fn run_on_network(desk: Desk, line: &[u8]) -> Desk
     requires { ⌜ Reached (desk .state) ⌝ }
     ensures { λ r. ⌜ Reached (r .state) ⌝ }
 {

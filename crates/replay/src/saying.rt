@@ -1,4 +1,7 @@
 // The lines that the program writes.
+ghost use mathlib.Core.Path.{_≡_};
+ghost use Rattle.meaning.specs.Refusals.{number};
+ghost use Rattle.state.specs.Promises.{tableOf};
 use state::Answer;
 use state::DecisionAnswer;
 use state::Refusal;
@@ -29,7 +32,9 @@ pub(crate) fn refused(refusal: Refusal) {
 }
 
 // Document 01's number of a refusal.
-fn number_of(refusal: Refusal) -> u64 {
+fn number_of(refusal: Refusal) -> u64
+    ensures { λ r. ⌜ r ≡ number (tableOf refusal) ⌝ }
+{
     match refusal {
         Refusal::NoSuchVariable => 1,
         Refusal::VariableTwice => 2,

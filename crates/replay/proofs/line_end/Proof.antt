@@ -1,12 +1,9 @@
 -- `replay::line_end` meets its contract. Assumes nothing.
-use mathlib.Core.Path.{_≡_}
 use Prim.Native.Nat.{_-_, _≤_}
-use lib.ListN.{length}
 use borrow.Author.Needs.{needs}
+use lib.ListN.{length}
 use Rattle.replay.proofs.line_end.Statement.{statement}
 use Rattle.replay.proofs.line_end.Tie as tie
-use Rattle.replay.proofs.line_end.Reads as reads
-use Rattle.replay.proofs.line_end.Lts as lts
 
 abbrev Inv-loop : tie.InvT-loop
 Inv-loop script from at₀ at = (from ≤ at) × (at ≤ length script)

@@ -1,17 +1,10 @@
 -- `replay::run` meets its contract. Assumes nothing.
-use mathlib.Core.Path.{_≡_}
-use Prim.Native.Nat.{_-_, _≤_}
+use Prim.Native.Nat.{_-_}
+use borrow.Author.Needs.{needs}
 use lib.ListN.{length}
 use Rattle.state.specs.Holds.{Reached}
-use borrow.Author.Needs.{needs}
 use Rattle.replay.proofs.run.Statement.{statement}
 use Rattle.replay.proofs.run.Tie as tie
-use Rattle.replay.proofs.run.Reads as reads
-use Rattle.replay.proofs.run.Lts as lts
-use Rattle.replay.proofs.desk.new.Reads as new-reads
-use Rattle.replay.proofs.line_end.Reads as line-end-reads
-use Rattle.replay.proofs.run_line.Reads as run-line-reads
-use Rattle.replay.proofs.saying.bad_script.Reads as bad-script-reads
 
 abbrev Inv-loop : tie.InvT-loop
 Inv-loop script desk₀ from₀ desk from = Reached (desk .state)

@@ -1,18 +1,9 @@
 -- `replay::adding::add_linear` meets its contract. Assumes nothing.
-use borrow.Author.Needs.{needs}
 use mathlib.Core.Path.{sym}
+use borrow.Author.Needs.{needs}
 use lib.Seq.{length-take-le}
 use Rattle.replay.proofs.adding.add_linear.Statement.{statement}
 use Rattle.replay.proofs.adding.add_linear.Tie as tie
-use Rattle.replay.proofs.adding.add_linear.Reads as reads
-use Rattle.replay.proofs.adding.add_linear.Lts as lts
-use Rattle.replay.proofs.adding.linear_added.Reads as linear-added-reads
-use Rattle.replay.proofs.arguments.last_signed.Reads as last-signed-reads
-use Rattle.replay.proofs.desk.stopped.Reads as stopped-reads
-use Rattle.replay.proofs.lists.bytes.Reads as bytes-reads
-use Rattle.replay.proofs.lists.integers.Reads as integers-reads
-use Rattle.replay.proofs.lists.read_bytes.Reads as read-bytes-reads
-use Rattle.replay.proofs.lists.read_integers.Reads as read-integers-reads
 
 bytes-requires : tie.Need-bytes-requires
 bytes-requires c κs = search needs

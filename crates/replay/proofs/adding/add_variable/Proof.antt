@@ -1,16 +1,9 @@
 -- `replay::adding::add_variable` meets its contract. Assumes nothing.
 use borrow.Author.Needs.{needs}
-use Rattle.state.proofs.Runs.{reached-after}
 use Rattle.meaning.specs.Calls.{addVariable}
+use Rattle.state.proofs.Runs.{reached-after}
 use Rattle.replay.proofs.adding.add_variable.Statement.{statement}
 use Rattle.replay.proofs.adding.add_variable.Tie as tie
-use Rattle.replay.proofs.adding.add_variable.Reads as reads
-use Rattle.replay.proofs.adding.add_variable.Lts as lts
-use Rattle.replay.proofs.arguments.last_mask.Reads as last-mask-reads
-use Rattle.replay.proofs.desk.counted.Reads as counted-reads
-use Rattle.replay.proofs.desk.stopped.Reads as stopped-reads
-use Rattle.replay.proofs.saying.answered.Reads as answered-reads
-use Rattle.state.proofs.add_variable.Reads as add-variable-reads
 
 last-mask-requires : tie.Need-last-mask-requires
 last-mask-requires c κs = search needs

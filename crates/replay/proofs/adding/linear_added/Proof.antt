@@ -2,15 +2,10 @@
 use borrow.Author.Needs.{needs}
 use mir.Syntax.{w32}
 use mir.Val.{toZ, ofZ}
-use Rattle.state.proofs.Runs.{reached-after}
 use Rattle.meaning.specs.Calls.{addLinear}
+use Rattle.state.proofs.Runs.{reached-after}
 use Rattle.replay.proofs.adding.linear_added.Statement.{statement}
 use Rattle.replay.proofs.adding.linear_added.Tie as tie
-use Rattle.replay.proofs.adding.linear_added.Reads as reads
-use Rattle.replay.proofs.adding.linear_added.Lts as lts
-use Rattle.replay.proofs.desk.moved.Reads as moved-reads
-use Rattle.replay.proofs.saying.answered.Reads as answered-reads
-use Rattle.state.proofs.add_linear.Reads as add-linear-reads
 
 add-linear-requires : tie.Need-add-linear-requires
 add-linear-requires c κs = search needs
@@ -18,8 +13,9 @@ add-linear-requires c κs = search needs
 answered-requires : tie.Need-answered-requires
 answered-requires c κs = search needs
 
-moved-requires : tie.Need-moved-requires
-moved-requires c κs = let start = c .before .before .before in
+with-state-requires : tie.Need-with-state-requires
+with-state-requires c κs =
+    let start = c .before .before .before in
     let a = start .args in
     reached-after (addLinear (a .scope .now) (a .coefficients .now) (toZ w32 (ofZ w32 (a .bound)))) (start .pre) (c .before .add-linear .ensures)
 
@@ -28,4 +24,4 @@ returns c = search needs
 
 pub linear-added-spec : {M : Type 1} → statement M
 linear-added-spec =
-    tie.close (tie.spec add-linear-requires answered-requires moved-requires returns)
+    tie.close (tie.spec add-linear-requires answered-requires with-state-requires returns)

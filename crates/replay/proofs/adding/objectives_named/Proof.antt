@@ -1,14 +1,9 @@
 -- `replay::adding::objectives_named` meets its contract. Assumes nothing.
 use borrow.Author.Needs.{needs}
-use Rattle.state.proofs.Runs.{reached-after}
 use Rattle.meaning.specs.Calls.{nameObjectives}
+use Rattle.state.proofs.Runs.{reached-after}
 use Rattle.replay.proofs.adding.objectives_named.Statement.{statement}
 use Rattle.replay.proofs.adding.objectives_named.Tie as tie
-use Rattle.replay.proofs.adding.objectives_named.Reads as reads
-use Rattle.replay.proofs.adding.objectives_named.Lts as lts
-use Rattle.replay.proofs.desk.moved.Reads as moved-reads
-use Rattle.replay.proofs.saying.answered.Reads as answered-reads
-use Rattle.state.proofs.name_objectives.Reads as name-objectives-reads
 
 name-objectives-requires : tie.Need-name-objectives-requires
 name-objectives-requires c κs = search needs
@@ -16,8 +11,9 @@ name-objectives-requires c κs = search needs
 answered-requires : tie.Need-answered-requires
 answered-requires c κs = search needs
 
-moved-requires : tie.Need-moved-requires
-moved-requires c κs = let start = c .before .before .before in
+with-state-requires : tie.Need-with-state-requires
+with-state-requires c κs =
+    let start = c .before .before .before in
     reached-after (nameObjectives (start .args .variables .now)) (start .pre) (c .before .name-objectives .ensures)
 
 returns : tie.Need-returns
@@ -25,4 +21,4 @@ returns c = search needs
 
 pub objectives-named-spec : {M : Type 1} → statement M
 objectives-named-spec =
-    tie.close (tie.spec name-objectives-requires answered-requires moved-requires returns)
+    tie.close (tie.spec name-objectives-requires answered-requires with-state-requires returns)

@@ -1,15 +1,10 @@
 -- `replay::adding::table_added` meets its contract. Assumes nothing.
 use borrow.Author.Needs.{needs}
+use Rattle.meaning.specs.Calls.{addTable}
 use Rattle.state.proofs.Runs.{reached-after}
 use Rattle.state.specs.Promises.{sortSaid}
-use Rattle.meaning.specs.Calls.{addTable}
 use Rattle.replay.proofs.adding.table_added.Statement.{statement}
 use Rattle.replay.proofs.adding.table_added.Tie as tie
-use Rattle.replay.proofs.adding.table_added.Reads as reads
-use Rattle.replay.proofs.adding.table_added.Lts as lts
-use Rattle.replay.proofs.desk.moved.Reads as moved-reads
-use Rattle.replay.proofs.saying.answered.Reads as answered-reads
-use Rattle.state.proofs.add_table.Reads as add-table-reads
 
 add-table-requires : tie.Need-add-table-requires
 add-table-requires c κs = search needs
@@ -17,8 +12,9 @@ add-table-requires c κs = search needs
 answered-requires : tie.Need-answered-requires
 answered-requires c κs = search needs
 
-moved-requires : tie.Need-moved-requires
-moved-requires c κs = let start = c .before .before .before .before in
+with-state-requires : tie.Need-with-state-requires
+with-state-requires c κs =
+    let start = c .before .before .before .before in
     let a = start .args in
     reached-after (addTable (sortSaid (a .sort)) (a .scope .now) (a .cells .now)) (start .pre) (c .before .add-table .ensures)
 
@@ -26,4 +22,4 @@ returns : tie.Need-returns
 returns c = search needs
 
 pub table-added-spec : {M : Type 1} → statement M
-table-added-spec = tie.close (tie.spec add-table-requires answered-requires moved-requires returns)
+table-added-spec = tie.close (tie.spec add-table-requires answered-requires with-state-requires returns)

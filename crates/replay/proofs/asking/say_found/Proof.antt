@@ -1,14 +1,8 @@
 -- `replay::asking::say_found` meets its contract. Assumes nothing.
-use mathlib.Core.Path.{_≡_}
 use Prim.Native.Nat.{_-_, _≤_}
-use lib.ListN.{length}
 use borrow.Author.Needs.{needs}
 use Rattle.replay.proofs.asking.say_found.Statement.{statement}
 use Rattle.replay.proofs.asking.say_found.Tie as tie
-use Rattle.replay.proofs.asking.say_found.Reads as reads
-use Rattle.replay.proofs.asking.say_found.Lts as lts
-use Rattle.replay.proofs.saying.say.Reads as say-reads
-use Rattle.replay.proofs.saying.say_field.Reads as say-field-reads
 
 abbrev Inv-loop : tie.InvT-loop
 Inv-loop buffer count i₀ t5 i = i ≤ 64

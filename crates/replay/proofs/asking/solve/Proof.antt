@@ -1,18 +1,9 @@
 -- `replay::asking::solve` meets its contract. Assumes nothing.
-use borrow.Author.Needs.{needs}
 use mathlib.Core.Path.{sym}
+use borrow.Author.Needs.{needs}
 use lib.Seq.{length-take-le}
 use Rattle.replay.proofs.asking.solve.Statement.{statement}
 use Rattle.replay.proofs.asking.solve.Tie as tie
-use Rattle.replay.proofs.asking.solve.Reads as reads
-use Rattle.replay.proofs.asking.solve.Lts as lts
-use Rattle.replay.proofs.arguments.last_number.Reads as last-number-reads
-use Rattle.replay.proofs.asking.at_most_all.Reads as at-most-all-reads
-use Rattle.replay.proofs.asking.say_found.Reads as say-found-reads
-use Rattle.replay.proofs.desk.stopped.Reads as stopped-reads
-use Rattle.replay.proofs.saying.refused.Reads as refused-reads
-use Rattle.replay.proofs.saying.say.Reads as say-reads
-use Rattle.state.proofs.solve.Reads as solve-reads
 
 last-number-requires : tie.Need-last-number-requires
 last-number-requires c κs = search needs

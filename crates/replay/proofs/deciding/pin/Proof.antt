@@ -1,16 +1,9 @@
 -- `replay::deciding::pin` meets its contract. Assumes nothing.
 use borrow.Author.Needs.{needs}
-use Rattle.state.proofs.Runs.{reached-after}
 use Rattle.meaning.specs.Calls.{pin}
+use Rattle.state.proofs.Runs.{reached-after}
 use Rattle.replay.proofs.deciding.pin.Statement.{statement}
 use Rattle.replay.proofs.deciding.pin.Tie as tie
-use Rattle.replay.proofs.deciding.pin.Reads as reads
-use Rattle.replay.proofs.deciding.pin.Lts as lts
-use Rattle.replay.proofs.arguments.last_pair.Reads as last-pair-reads
-use Rattle.replay.proofs.desk.moved.Reads as moved-reads
-use Rattle.replay.proofs.desk.stopped.Reads as stopped-reads
-use Rattle.replay.proofs.saying.decided.Reads as decided-reads
-use Rattle.state.proofs.pin.Reads as pin-reads
 
 last-pair-requires : tie.Need-last-pair-requires
 last-pair-requires c κs = search needs
@@ -27,8 +20,9 @@ pin-requires c κs = search needs
 decided-requires : tie.Need-decided-requires
 decided-requires c κs = search needs
 
-moved-requires : tie.Need-moved-requires
-moved-requires c κs = let pair = c .before .before .before .before .last-pair .result in
+with-state-requires : tie.Need-with-state-requires
+with-state-requires c κs =
+    let pair = c .before .before .before .before .last-pair .result in
     reached-after (pin (pair .variable) (pair .value)) (c .before .before .before .before .before .before .pre .0) (c .before .pin .ensures)
 
 returns-2 : tie.Need-returns-2
@@ -43,5 +37,5 @@ pin-spec =
     returns
     pin-requires
     decided-requires
-    moved-requires
+    with-state-requires
     returns-2)

@@ -1,16 +1,9 @@
 -- `replay::deciding::take_back` meets its contract. Assumes nothing.
 use borrow.Author.Needs.{needs}
-use Rattle.state.proofs.Runs.{reached-after}
 use Rattle.meaning.specs.Calls.{takeBack}
+use Rattle.state.proofs.Runs.{reached-after}
 use Rattle.replay.proofs.deciding.take_back.Statement.{statement}
 use Rattle.replay.proofs.deciding.take_back.Tie as tie
-use Rattle.replay.proofs.deciding.take_back.Reads as reads
-use Rattle.replay.proofs.deciding.take_back.Lts as lts
-use Rattle.replay.proofs.arguments.last_number.Reads as last-number-reads
-use Rattle.replay.proofs.desk.moved.Reads as moved-reads
-use Rattle.replay.proofs.desk.stopped.Reads as stopped-reads
-use Rattle.replay.proofs.saying.answered.Reads as answered-reads
-use Rattle.state.proofs.take_back.Reads as take-back-reads
 
 last-number-requires : tie.Need-last-number-requires
 last-number-requires c κs = search needs
@@ -27,8 +20,8 @@ take-back-requires c κs = search needs
 answered-requires : tie.Need-answered-requires
 answered-requires c κs = search needs
 
-moved-requires : tie.Need-moved-requires
-moved-requires c κs = reached-after (takeBack _) (c .before .before .before .before .before .before .pre .0) (c .before .take-back .ensures)
+with-state-requires : tie.Need-with-state-requires
+with-state-requires c κs = reached-after (takeBack _) (c .before .before .before .before .before .before .pre .0) (c .before .take-back .ensures)
 
 returns-2 : tie.Need-returns-2
 returns-2 c = search needs
@@ -42,5 +35,5 @@ take-back-spec =
     returns
     take-back-requires
     answered-requires
-    moved-requires
+    with-state-requires
     returns-2)

@@ -3,9 +3,6 @@ use borrow.Author.Needs.{needs}
 use Rattle.state.proofs.Runs.{reached-new}
 use Rattle.replay.proofs.desk.new.Statement.{statement}
 use Rattle.replay.proofs.desk.new.Tie as tie
-use Rattle.replay.proofs.desk.new.Reads as reads
-use Rattle.replay.proofs.desk.new.Lts as lts
-use Rattle.state.proofs.new.Reads as new-reads
 
 new-requires : tie.Need-new-requires
 new-requires c κs = search needs

@@ -1,19 +1,12 @@
 -- `replay::lists::read_bytes` meets its contract. Assumes nothing.
-use mathlib.Core.Path.{_≡_}
+use mathlib.Core.Path.{_≡_, sym, _∙_}
 use Prim.Native.Nat.{_-_, _≤_}
-use lib.ListN.{length}
-use borrow.Author.Needs.{needs}
-use mathlib.Core.Path.{sym, _∙_}
 use native.Mathlib.Omega.{arith}
-use lib.ListN.{length-set}
+use borrow.Author.Needs.{needs}
+use lib.ListN.{length, length-set}
 use lib.Seq.{length-take-le}
 use Rattle.replay.proofs.lists.read_bytes.Statement.{statement}
 use Rattle.replay.proofs.lists.read_bytes.Tie as tie
-use Rattle.replay.proofs.lists.read_bytes.Reads as reads
-use Rattle.replay.proofs.lists.read_bytes.Lts as lts
-use Rattle.replay.proofs.arguments.number_in.Reads as number-in-reads
-use Rattle.replay.proofs.words.is_word.Reads as is-word-reads
-use Rattle.replay.proofs.words.next_word.Reads as next-word-reads
 
 abbrev Inv-loop : tie.InvT-loop
 Inv-loop line at end out₀ count₀ from₀ out count from = (length out ≡ length out₀) × (count ≤ length out) × (from ≤ length line)
@@ -34,7 +27,8 @@ same-length : tie.Need-same-length Inv-loop μ-loop
 same-length c = search needs
 
 returns : tie.Need-returns Inv-loop μ-loop
-returns c = let l = c .before .before .before .before .loop in
+returns c =
+    let l = c .before .before .before .before .loop in
     ((l .inv .1, sym (length-take-le (l .count) (l .out) (l .inv .1))), c .before .before .next-word .ensures .1)
 
 number-in-requires : tie.Need-number-in-requires Inv-loop μ-loop
@@ -53,7 +47,8 @@ loop-less : tie.Need-loop-less Inv-loop μ-loop
 loop-less c = search needs
 
 loop-again : tie.Need-loop-again Inv-loop μ-loop
-loop-again c = let l = c .before .before .before .before .before .before .before .before .loop in
+loop-again c =
+    let l = c .before .before .before .before .before .before .before .before .loop in
     let long = length-set (l .out) (l .count) (c .before .before .before .number-in .result .value) in
     (long ∙ l .inv .0, omega (arith, long, c .before .before .before .before .before .before .before .loop-test .taken), c .before .before .before .before .before .before .next-word .ensures .1)
 

@@ -1,20 +1,13 @@
 -- `replay::lists::read_integers` meets its contract. Assumes nothing.
-use mathlib.Core.Path.{_≡_}
+use mathlib.Core.Path.{_≡_, _∙_}
 use Prim.Native.Nat.{_-_, _≤_}
-use lib.ListN.{length}
-use borrow.Author.Needs.{needs}
-use mathlib.Core.Path.{_∙_}
 use native.Mathlib.Omega.{arith}
-use lib.ListN.{length-set}
+use borrow.Author.Needs.{needs}
 use mir.Syntax.{w32}
 use mir.Val.{toZ, ofZ}
+use lib.ListN.{length, length-set}
 use Rattle.replay.proofs.lists.read_integers.Statement.{statement}
 use Rattle.replay.proofs.lists.read_integers.Tie as tie
-use Rattle.replay.proofs.lists.read_integers.Reads as reads
-use Rattle.replay.proofs.lists.read_integers.Lts as lts
-use Rattle.replay.proofs.arguments.signed_in.Reads as signed-in-reads
-use Rattle.replay.proofs.words.is_word.Reads as is-word-reads
-use Rattle.replay.proofs.words.next_word.Reads as next-word-reads
 
 abbrev Inv-loop : tie.InvT-loop
 Inv-loop line at end out₀ count₀ from₀ out count from = (length out ≡ length out₀) × (count ≤ length out) × (from ≤ length line)
@@ -53,7 +46,8 @@ loop-less : tie.Need-loop-less Inv-loop μ-loop
 loop-less c = search needs
 
 loop-again : tie.Need-loop-again Inv-loop μ-loop
-loop-again c = let l = c .before .before .before .before .before .before .before .before .loop in
+loop-again c =
+    let l = c .before .before .before .before .before .before .before .before .loop in
     let long = length-set (l .out) (l .count) (toZ w32 (ofZ w32 (c .before .before .before .signed-in .result .value))) in
     (long ∙ l .inv .0, omega (arith, long, c .before .before .before .before .before .before .before .loop-test .taken), c .before .before .before .before .before .before .next-word .ensures .1)
 

@@ -1,16 +1,11 @@
 -- `replay::numbers::in_base` meets its contract. Assumes nothing.
-use mathlib.Core.Path.{_≡_}
-use Prim.Native.Nat.{_-_, _≤_}
-use lib.ListN.{length}
-use borrow.Author.Needs.{needs}
-use Prim.Native.Nat.{_*_, _/_, _+_}
+use Prim.Native.Nat.{_-_, _≤_, _/_}
 use native.Mathlib.Omega.{arith}
+use borrow.Author.Needs.{needs}
+use lib.ListN.{length}
 use Rattle.replay.proofs.Whole.{within-limit}
 use Rattle.replay.proofs.numbers.in_base.Statement.{statement}
 use Rattle.replay.proofs.numbers.in_base.Tie as tie
-use Rattle.replay.proofs.numbers.in_base.Reads as reads
-use Rattle.replay.proofs.numbers.in_base.Lts as lts
-use Rattle.replay.proofs.numbers.digit_of.Reads as digit-of-reads
 
 abbrev Inv-loop : tie.InvT-loop
 Inv-loop word base limit value₀ i₀ value i = value ≤ limit
@@ -36,35 +31,25 @@ div-if2 c = search needs
 returns : tie.Need-returns Inv-loop μ-loop
 returns c = search needs
 
-mul-value : tie.Need-mul-value Inv-loop μ-loop
-mul-value c = let a = c .before .before .before .before .before .before .before .args in
+loop-again : tie.Need-loop-again Inv-loop μ-loop
+loop-again c =
+    let a = c .before .before .before .before .before .before .before .args in
     let value = c .before .before .before .before .before .loop .value in
     let digit = c .before .before .digit-of .result in
     let few : value ≤ (a .limit - digit) / a .base = search needs in
-    let h = within-limit (a .limit) (a .base) value digit few (omega arith) in
-    record { fits = omega (arith, h, c .before .before .before .before .before .before .before .fits .limit) }
+    within-limit (a .limit) (a .base) value digit few (omega arith)
+
+mul-value : tie.Need-mul-value Inv-loop μ-loop
+mul-value c = record { fits = omega (arith, loop-again c, c .before .before .before .before .before .before .before .fits .limit) }
 
 add-value : tie.Need-add-value Inv-loop μ-loop
-add-value c = let a = c .before .before .before .before .before .before .before .args in
-    let value = c .before .before .before .before .before .loop .value in
-    let digit = c .before .before .digit-of .result in
-    let few : value ≤ (a .limit - digit) / a .base = search needs in
-    let h = within-limit (a .limit) (a .base) value digit few (omega arith) in
-    record { fits = omega (arith, h, c .before .before .before .before .before .before .before .fits .limit) }
+add-value c = record { fits = omega (arith, loop-again c, c .before .before .before .before .before .before .before .fits .limit) }
 
 add-i : tie.Need-add-i Inv-loop μ-loop
 add-i c = search needs
 
 loop-less : tie.Need-loop-less Inv-loop μ-loop
 loop-less c = search needs
-
-loop-again : tie.Need-loop-again Inv-loop μ-loop
-loop-again c = let a = c .before .before .before .before .before .before .before .args in
-    let value = c .before .before .before .before .before .loop .value in
-    let digit = c .before .before .digit-of .result in
-    let few : value ≤ (a .limit - digit) / a .base = search needs in
-    let h = within-limit (a .limit) (a .base) value digit few (omega arith) in
-    h
 
 returns-2 : tie.Need-returns-2 Inv-loop μ-loop
 returns-2 c = search needs

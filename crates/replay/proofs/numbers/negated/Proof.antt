@@ -3,8 +3,6 @@ use borrow.Author.Needs.{needs}
 use Rattle.replay.proofs.Whole.{difference-fits, difference-casts}
 use Rattle.replay.proofs.numbers.negated.Statement.{statement}
 use Rattle.replay.proofs.numbers.negated.Tie as tie
-use Rattle.replay.proofs.numbers.negated.Reads as reads
-use Rattle.replay.proofs.numbers.negated.Lts as lts
 
 cast-result : tie.Need-cast-result
 cast-result c = search needs

@@ -1,13 +1,9 @@
 -- `replay::words::next_word` meets its contract. Assumes nothing.
-use borrow.Author.Needs.{needs}
 use native.Mathlib.Omega.{arith}
+use borrow.Author.Needs.{needs}
 use Rattle.text.proofs.Bounds.{start-inside}
 use Rattle.replay.proofs.words.next_word.Statement.{statement}
 use Rattle.replay.proofs.words.next_word.Tie as tie
-use Rattle.replay.proofs.words.next_word.Reads as reads
-use Rattle.replay.proofs.words.next_word.Lts as lts
-use Rattle.replay.proofs.words.word_end.Reads as word-end-reads
-use Rattle.text.proofs.skip_blanks.Reads as skip-blanks-reads
 
 skip-blanks-requires : tie.Need-skip-blanks-requires
 skip-blanks-requires c κs = search needs

@@ -1,12 +1,9 @@
 -- `replay::words::same` meets its contract. Assumes nothing.
-use mathlib.Core.Path.{_≡_}
-use Prim.Native.Nat.{_-_, _≤_}
-use lib.ListN.{length}
+use Prim.Native.Nat.{_-_}
 use borrow.Author.Needs.{needs}
+use lib.ListN.{length}
 use Rattle.replay.proofs.words.same.Statement.{statement}
 use Rattle.replay.proofs.words.same.Tie as tie
-use Rattle.replay.proofs.words.same.Reads as reads
-use Rattle.replay.proofs.words.same.Lts as lts
 
 abbrev Inv-loop : tie.InvT-loop
 Inv-loop a b i₀ i = Unit

@@ -1,13 +1,9 @@
 -- `replay::words::word_end` meets its contract. Assumes nothing.
-use mathlib.Core.Path.{_≡_}
 use Prim.Native.Nat.{_-_, _≤_}
-use lib.ListN.{length}
 use borrow.Author.Needs.{needs}
+use lib.ListN.{length}
 use Rattle.replay.proofs.words.word_end.Statement.{statement}
 use Rattle.replay.proofs.words.word_end.Tie as tie
-use Rattle.replay.proofs.words.word_end.Reads as reads
-use Rattle.replay.proofs.words.word_end.Lts as lts
-use Rattle.replay.proofs.words.is_blank.Reads as is-blank-reads
 
 abbrev Inv-loop : tie.InvT-loop
 Inv-loop line start end₀ end = (start ≤ end) × (end ≤ length line)
