@@ -142,7 +142,7 @@ fn left_by(
     supported(masks, arity, counts, ways)
 }
 
-// The same. Few places need few counts, and clearing them is most of the work for a pair of variables.
+// The same. A pair of variables needs few counts, and clearing them is most of the work.
 fn left_of(
     room: &[u16],
     first: usize,
@@ -154,9 +154,9 @@ fn left_of(
     requires { ⌜ Tuples (now room) first arity tuples × (tuples ≤ roomLimit) × (arity ≤ arityLimit) ⌝ }
     ensures { λ r. ⌜ LeftBy (now (masks .entry)) arity (rows tuples arity (drop first (now (room .entry)))) (now (ways .entry)) r ⌝ }
 {
-    if arity <= 2 {
+    if arity == 2 {
         let mut few = [0u16; 128];
-        return left_by(room, first, arity, tuples, masks, ways, &mut few);
+        return left_by(room, first, 2, tuples, masks, ways, &mut few);
     }
     let mut counts = [0u16; 512];
     left_by(room, first, arity, tuples, masks, ways, &mut counts)

@@ -1,6 +1,11 @@
 -- `state::forbidden::left_of` meets its contract. Assumes nothing.
 use borrow.Author.Needs.{needs}
 use native.Mathlib.Omega.{arith}
+use mathlib.Core.Path.{subst, subst⁻¹}
+use Prim.Native.Nat.{ℕ}
+use lib.ListN.{drop}
+use Rattle.state.specs.Tables.{Tuples, LeftBy}
+use Rattle.meaning.specs.Calls.{rows}
 use Rattle.state.proofs.Tallies.{blank-new}
 use Rattle.state.proofs.forbidden.left_of.Statement.{statement}
 use Rattle.state.proofs.forbidden.left_of.Tie as tie
@@ -10,10 +15,11 @@ slice-aggregate-left-by c = search needs
 
 left-by-requires : tie.Need-left-by-requires
 left-by-requires c κs = let s = c .before .before .before in
-    (s .pre .0, s .pre .1, blank-new (s .args .arity) 128 (omega (arith, c .before .if1 .taken)), s .pre .2)
+    (subst (λ (n : ℕ). Tuples (s .args .room .now) (s .args .first) n (s .args .tuples)) (c .before .if1 .taken) (s .pre .0), s .pre .1, blank-new 2 128 (omega arith), omega arith)
 
 returns : tie.Need-returns
-returns c = c .before .left-by .ensures
+returns c = let a = c .before .before .before .before .before .args in
+    subst⁻¹ (λ (n : ℕ). LeftBy (a .masks .now) n (rows (a .tuples) n (drop (a .first) (a .room .now))) (a .ways .now) (c .before .left-by .result)) (c .before .before .before .if1 .taken) (c .before .left-by .ensures)
 
 slice-aggregate-left-by-2 : tie.Need-slice-aggregate-left-by-2
 slice-aggregate-left-by-2 c = search needs
