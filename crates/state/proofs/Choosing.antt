@@ -10,13 +10,13 @@ use native.Mathlib.Omega.{arith}
 use lib.Arith.{lt-of-le-ne}
 use lib.ListN.{length, getD, set, take}
 use Rattle.meaning.specs.Limits.{valueLimit, variableLimit, objectiveLimit}
-use Rattle.meaning.specs.Values.{Has}
+use Rattle.meaning.specs.Values.{Has, size}
 use Rattle.meaning.specs.Rules.{Rule, at}
 use Rattle.meaning.specs.Order.{_≺_}
 use Rattle.meaning.specs.Lists.{Left, Closed}
 use Rattle.meaning.proofs.Digits.{zero-bit}
 use Rattle.meaning.proofs.Leximin.{≺-iff}
-use Rattle.values.specs.Sets.{Alone, Lowest, Dropped}
+use Rattle.values.specs.Sets.{Alone, Lowest, Removed}
 use Rattle.state.specs.Layout.{rulesAt}
 use Rattle.state.specs.Filter.{weight}
 use Rattle.state.specs.Search.{Meets, Searched, Sieved, Net}
@@ -114,6 +114,9 @@ module _ {heads room : List ℕ} {rules : ℕ} {sets objective : List ℕ} {coun
     small : v < valueLimit
     small = low .some (omega arith)
 
+    pub fewer-left : {more : ℕ} → Removed rest v more → size more < size rest
+    fewer-left removed = omega (arith, removed .fewer, low .here small)
+
     present : Left L x v
     present = left .within v (low .here small)
 
@@ -148,9 +151,8 @@ module _ {heads room : List ℕ} {rules : ℕ} {sets objective : List ℕ} {coun
         tried-found = record { first = λ _. record { holds = meets; first = first }; none = λ z. absurd (true≢false (sym e ∙ z)) }
 
       -- where there is none with it, the others are left
-      pub tried-none : {more : ℕ} → Dropped rest more → found ≡ false → Trying more
-      tried-none dropped e =
-          let removed = dropped .least v low in
+      pub tried-none : {more : ℕ} → Removed rest v more → found ≡ false → Trying more
+      tried-none removed e =
           record {
             within = λ w h. by-cases (ℕ-discrete w v) (λ q. absurd (omega (arith, removed .gone, rw q at h))) (λ q. left .within w (sym (removed .kept w q) ∙ h));
             others = λ a k.

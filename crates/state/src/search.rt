@@ -6,6 +6,7 @@ ghost use Prim.Native.Nat.{_≤_, _<_};
 ghost use lib.ListN.{length, getD, take, set};
 ghost use Rattle.meaning.specs.Limits.{variableLimit, objectiveLimit};
 ghost use Rattle.meaning.specs.Lists.{Closed};
+ghost use Rattle.values.specs.Sets.{Lowest};
 ghost use Rattle.state.specs.Layout.{rulesAt};
 ghost use Rattle.state.specs.Search.{Net, Searched};
 ghost use Rattle.state.specs.Choosing.{FirstOpen, Lows, TellsEmpty, Choosable, Narrowable};
@@ -74,6 +75,13 @@ fn none() -> Rota
     }
 }
 
+// The value that is tried before the others of a set.
+fn next_value(rest: u64) -> usize
+    ensures { λ r. ⌜ Lowest rest r ⌝ }
+{
+    values::lowest(rest)
+}
+
 // The first rota within narrowed lists. Where no variable is open, each list's only value makes it.
 fn choose<'a>(
     heads: &'a [u32],
@@ -95,7 +103,8 @@ fn choose<'a>(
     }
     let mut rest = lists[x];
     while rest != 0 {
-        let kept = values::only(values::lowest(rest));
+        let v = next_value(rest);
+        let kept = values::only(v);
         let rota = try_value(
             heads,
             room,
@@ -112,7 +121,7 @@ fn choose<'a>(
         if rota.found {
             return rota;
         }
-        rest = values::without_lowest(rest);
+        rest = values::without(rest, v);
     }
     none()
 }

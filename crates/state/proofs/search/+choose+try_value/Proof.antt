@@ -10,7 +10,7 @@ use Rattle.state.specs.Filter.{weight}
 use Rattle.state.specs.Choosing.{Settled}
 use Rattle.state.proofs.Sweeping.{weight-le}
 use Rattle.state.proofs.Leaves.{leaf}
-use Rattle.state.proofs.Choosing.{ToTry, try-all, tried-all, try-narrowable, try-less, tried-found, tried-none, sieved-searched, sieved-dead, sieved-choosable}
+use Rattle.state.proofs.Choosing.{ToTry, try-all, tried-all, try-narrowable, try-less, tried-found, tried-none, fewer-left, sieved-searched, sieved-dead, sieved-choosable}
 use borrow.Author.Needs.{needs}
 use borrow.Fn.Kinds.{In}
 use borrow.Fn.PlainCycle.{Measures, is, falls, and}
@@ -24,9 +24,9 @@ use Rattle.state.proofs.nodes.narrow.Reads as narrow-reads
 use Rattle.state.proofs.search.first_open.Reads as first-open-reads
 use Rattle.state.proofs.search.lows_of.Reads as lows-of-reads
 use Rattle.state.proofs.search.none.Reads as none-reads
-use Rattle.values.proofs.lowest.Reads as lowest-reads
+use Rattle.state.proofs.search.next_value.Reads as next-value-reads
 use Rattle.values.proofs.only.Reads as only-reads
-use Rattle.values.proofs.without_lowest.Reads as without-lowest-reads
+use Rattle.values.proofs.without.Reads as without-reads
 use Rattle.state.proofs.search.+choose+try_value.{statement}
 use Rattle.state.proofs.search.+choose+try_value.Tie.{close}
 
@@ -64,14 +64,14 @@ choose-calls t = (
   first-open-reads.Learnt,
   lows-of-reads.Asked,
   lows-of-reads.Learnt,
-  lowest-reads.Asked,
-  lowest-reads.Learnt,
+  next-value-reads.Asked,
+  next-value-reads.Learnt,
   only-reads.Asked,
   only-reads.Learnt,
   try-value-below t,
   try-value.Post,
-  without-lowest-reads.Asked,
-  without-lowest-reads.Learnt,
+  without-reads.Asked,
+  without-reads.Learnt,
   none-reads.Asked,
   none-reads.Learnt,
 )
@@ -125,8 +125,8 @@ choose-loop-holds t c =
     let other = c .if1 .left in
     try-all ready long opens other
 
-choose-lowest-requires : (t : ℕ) → choose-lts.Need-lowest-requires (choose-calls t) (choose-at t) choose.Post choose-Inv-loop choose-μ-loop
-choose-lowest-requires t c κs = search needs
+choose-next-value-requires : (t : ℕ) → choose-lts.Need-next-value-requires (choose-calls t) (choose-at t) choose.Post choose-Inv-loop choose-μ-loop
+choose-next-value-requires t c κs = search needs
 
 choose-only-requires : (t : ℕ) → choose-lts.Need-only-requires (choose-calls t) (choose-at t) choose.Post choose-Inv-loop choose-μ-loop
 choose-only-requires t c κs = search needs
@@ -140,7 +140,7 @@ choose-try-value-requires t c κs =
     let other = c .before .before .before .before .if1 .left in
     let left = c .before .before .before .loop .inv in
     let some = c .before .before .loop-test .taken in
-    let low = c .before .lowest .ensures in
+    let low = c .before .next-value .ensures in
     let alone = c .only .ensures in
     (omega (arith, start .pre .0, try-less ready long opens other left some low alone), (omega (arith, opens .most, ready .net .variables), try-narrowable ready long opens other left some low alone))
 
@@ -153,15 +153,23 @@ choose-returns-2 t c =
     let other = c .before .before .before .before .before .before .if1 .left in
     let left = c .before .before .before .before .before .loop .inv in
     let some = c .before .before .before .before .loop-test .taken in
-    let low = c .before .before .before .lowest .ensures in
+    let low = c .before .before .before .next-value .ensures in
     let alone = c .before .before .only .ensures in
     tried-found ready long opens other left some low alone (c .before .try-value .ensures) (c .if2 .taken)
 
-choose-without-lowest-requires : (t : ℕ) → choose-lts.Need-without-lowest-requires (choose-calls t) (choose-at t) choose.Post choose-Inv-loop choose-μ-loop
-choose-without-lowest-requires t c κs = search needs
+choose-without-requires : (t : ℕ) → choose-lts.Need-without-requires (choose-calls t) (choose-at t) choose.Post choose-Inv-loop choose-μ-loop
+choose-without-requires t c κs = search needs
 
 choose-loop-less : (t : ℕ) → choose-lts.Need-loop-less (choose-calls t) (choose-at t) choose.Post choose-Inv-loop choose-μ-loop
-choose-loop-less t c = omega (arith, c .without-lowest .ensures .fewer (omega (arith, c .before .before .before .before .before .loop-test .taken)))
+choose-loop-less t c =
+    let start = c .before .before .before .before .before .before .before .before .before .before .before .before .before .before .before in
+    let ready = start .pre .1 in
+    let long : length (start .args .t9) ≡ variableLimit = search needs in
+    let opens = c .before .before .before .before .before .before .before .before .first-open .ensures in
+    let other = c .before .before .before .before .before .before .before .if1 .left in
+    let left = c .before .before .before .before .before .before .loop .inv in
+    let some = c .before .before .before .before .before .loop-test .taken in
+    fewer-left ready long opens other left some (c .before .before .before .before .next-value .ensures) (c .before .before .before .only .ensures) (c .without .ensures)
 
 choose-loop-again : (t : ℕ) → choose-lts.Need-loop-again (choose-calls t) (choose-at t) choose.Post choose-Inv-loop choose-μ-loop
 choose-loop-again t c =
@@ -172,9 +180,9 @@ choose-loop-again t c =
     let other = c .before .before .before .before .before .before .before .if1 .left in
     let left = c .before .before .before .before .before .before .loop .inv in
     let some = c .before .before .before .before .before .loop-test .taken in
-    let low = c .before .before .before .before .lowest .ensures in
+    let low = c .before .before .before .before .next-value .ensures in
     let alone = c .before .before .before .only .ensures in
-    tried-none ready long opens other left some low alone (c .before .before .try-value .ensures) (c .without-lowest .ensures) (c .before .if2 .left)
+    tried-none ready long opens other left some low alone (c .before .before .try-value .ensures) (c .without .ensures) (c .before .if2 .left)
 
 choose-none-requires : (t : ℕ) → choose-lts.Need-none-requires (choose-calls t) (choose-at t) choose.Post choose-Inv-loop choose-μ-loop
 choose-none-requires t c κs = search needs
@@ -239,11 +247,11 @@ pub +choose+try-value-spec : {M : Type 1} → statement M
     (choose-mul-rest t)
     (choose-array-read-rest t)
     (choose-loop-holds t)
-    (choose-lowest-requires t)
+    (choose-next-value-requires t)
     (choose-only-requires t)
     (choose-try-value-requires t)
     (choose-returns-2 t)
-    (choose-without-lowest-requires t)
+    (choose-without-requires t)
     (choose-loop-less t)
     (choose-loop-again t)
     (choose-none-requires t)
