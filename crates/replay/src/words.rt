@@ -41,28 +41,13 @@ pub(crate) fn next_word(line: &[u8], at: usize) -> Word
     Word { start, end }
 }
 
-// Whether two texts are the same.
-fn same(a: &[u8], b: &[u8]) -> bool {
-    if a.len() != b.len() {
-        return false;
-    }
-    let mut i = 0;
-    while i < a.len() {
-        if a[i] != b[i] {
-            return false;
-        }
-        i += 1;
-    }
-    true
-}
-
 // Whether the word reads so.
 pub(crate) fn is_word(line: &[u8], word: Word, name: &[u8]) -> bool
     requires { ⌜ (word .start ≤ word .end) × (word .end ≤ length (now line)) ⌝ }
 {
     let start = word.start;
     let end = word.end;
-    same(&line[start..end], name)
+    tuples::are_same(&line[start..end], name)
 }
 
 // Whether the line has no word from `at` on.
