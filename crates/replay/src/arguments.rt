@@ -1,11 +1,11 @@
 // The arguments of a call, word by word.
 ghost use Prim.Native.Nat.{_≤_};
 ghost use lib.ListN.{length};
-use crate::numbers::Number;
-use crate::numbers::Signed;
-use crate::numbers::decimal;
-use crate::numbers::hexadecimal;
-use crate::numbers::with_sign;
+use crate::digits::Number;
+use crate::digits::Signed;
+use crate::digits::decimal;
+use crate::digits::hexadecimal;
+use crate::digits::with_sign;
 use crate::words::Word;
 use crate::words::is_over;
 use crate::words::next_word;

@@ -7,7 +7,7 @@ use crate::arguments::last_pair;
 use crate::desk::Desk;
 use crate::desk::stopped;
 use crate::desk::with_state;
-use crate::numbers::MOST;
+use crate::digits::MOST;
 use crate::saying;
 
 // `pin VARIABLE VALUE`

@@ -12,8 +12,8 @@ mod arguments;
 mod asking;
 mod deciding;
 mod desk;
+mod digits;
 mod lists;
-mod numbers;
 mod saying;
 mod words;
 

@@ -1,7 +1,4 @@
 // The lines that the program writes.
-ghost use mathlib.Core.Path.{_≡_};
-ghost use Rattle.meaning.specs.Refusals.{number};
-ghost use Rattle.state.specs.Promises.{tableOf};
 use state::Answer;
 use state::DecisionAnswer;
 use state::Refusal;
@@ -27,29 +24,8 @@ pub(crate) fn bad_script(at: usize) {
 
 pub(crate) fn refused(refusal: Refusal) {
     say(b"refused ");
-    say_number(number_of(refusal));
+    say_number(numbers::number_of(refusal) as u64);
     say(b"\n");
-}
-
-// Document 01's number of a refusal.
-fn number_of(refusal: Refusal) -> u64
-    ensures { λ r. ⌜ r ≡ number (tableOf refusal) ⌝ }
-{
-    match refusal {
-        Refusal::NoSuchVariable => 1,
-        Refusal::VariableTwice => 2,
-        Refusal::WrongLength => 3,
-        Refusal::OutOfRange => 4,
-        Refusal::TupleTwice => 5,
-        Refusal::Full => 6,
-        Refusal::Malformed => 7,
-        Refusal::NotLeft => 8,
-        Refusal::TooManyDecisions => 9,
-        Refusal::TooDeep => 10,
-        Refusal::ShortBuffer => 11,
-        Refusal::NoObjective => 12,
-        Refusal::Decided => 13,
-    }
 }
 
 pub(crate) fn answered(answer: Answer) {

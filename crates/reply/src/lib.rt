@@ -3,44 +3,21 @@ ghost use mathlib.Core.Path.{_≡_};
 ghost use Prim.Native.Nat.{_≤_, _<_, min};
 ghost use lib.ListN.{length, take};
 ghost use Rattle.meaning.specs.Limits.{variableLimit, objectiveLimit};
-ghost use Rattle.meaning.specs.Refusals.{number};
 ghost use Rattle.meaning.specs.Order.{sorted};
 ghost use Rattle.state.specs.Holds.{Reached};
-ghost use Rattle.state.specs.Promises.{tableOf};
 ghost use Rattle.lines.specs.Lines.{foundLines};
 ghost use Rattle.lines.specs.Writing.{Written};
 ghost use Rattle.reply.specs.Replies.{Replies, Answers, SolvedLines};
 use lines::LINES;
 use meaning::OBJECTIVES;
 use meaning::VARIABLES;
-use state::Refusal;
+use numbers::number_of;
 use state::Solved;
 use state::State;
 use wcsp::Outcome;
 
 // The most bytes that the program reads.
 pub const TEXT: usize = 32_768;
-
-// Document 01's number of a refusal.
-fn number_of(refusal: Refusal) -> u8
-    ensures { λ r. ⌜ r ≡ number (tableOf refusal) ⌝ }
-{
-    match refusal {
-        Refusal::NoSuchVariable => 1,
-        Refusal::VariableTwice => 2,
-        Refusal::WrongLength => 3,
-        Refusal::OutOfRange => 4,
-        Refusal::TupleTwice => 5,
-        Refusal::Full => 6,
-        Refusal::Malformed => 7,
-        Refusal::NotLeft => 8,
-        Refusal::TooManyDecisions => 9,
-        Refusal::TooDeep => 10,
-        Refusal::ShortBuffer => 11,
-        Refusal::NoObjective => 12,
-        Refusal::Decided => 13,
-    }
-}
 
 // How many of n variables are objectives: the first 16, or all where there are fewer.
 fn objective_count(n: usize) -> usize

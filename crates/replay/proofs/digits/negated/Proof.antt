@@ -1,8 +1,8 @@
--- `replay::numbers::negated` meets its contract. Assumes nothing.
+-- `replay::digits::negated` meets its contract. Assumes nothing.
 use borrow.Author.Needs.{needs}
 use Rattle.replay.proofs.Whole.{difference-fits, difference-casts}
-use Rattle.replay.proofs.numbers.negated.Statement.{statement}
-use Rattle.replay.proofs.numbers.negated.Tie as tie
+use Rattle.replay.proofs.digits.negated.Statement.{statement}
+use Rattle.replay.proofs.digits.negated.Tie as tie
 
 cast-result : tie.Need-cast-result
 cast-result c = search needs

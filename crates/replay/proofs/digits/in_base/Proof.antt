@@ -1,11 +1,11 @@
--- `replay::numbers::in_base` meets its contract. Assumes nothing.
+-- `replay::digits::in_base` meets its contract. Assumes nothing.
 use Prim.Native.Nat.{_-_, _≤_, _/_}
 use native.Mathlib.Omega.{arith}
 use borrow.Author.Needs.{needs}
 use lib.ListN.{length}
 use Rattle.replay.proofs.Whole.{within-limit}
-use Rattle.replay.proofs.numbers.in_base.Statement.{statement}
-use Rattle.replay.proofs.numbers.in_base.Tie as tie
+use Rattle.replay.proofs.digits.in_base.Statement.{statement}
+use Rattle.replay.proofs.digits.in_base.Tie as tie
 
 abbrev Inv-loop : tie.InvT-loop
 Inv-loop word base limit value₀ i₀ value i = value ≤ limit

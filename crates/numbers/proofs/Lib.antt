@@ -1,0 +1,2 @@
+-- What the proofs of `numbers` add.
+pub mod Unique
