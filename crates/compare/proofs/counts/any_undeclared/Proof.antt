@@ -1,0 +1,73 @@
+use borrow.Author.Needs.{needs}
+use Prim.Native.Nat.{_-_, _≤_}
+use Rattle.compare.proofs.counts.any_undeclared.Statement.{statement}
+use Rattle.compare.proofs.counts.any_undeclared.Tie as tie
+use Rattle.compare.proofs.counts.any_undeclared.Reads as reads
+use Rattle.compare.proofs.counts.any_undeclared.Lts as lts
+use Rattle.compare.proofs.counts.place_after.Reads as place-after-reads
+use Rattle.compare.proofs.places.byte_at.Reads as byte-at-reads
+use Rattle.compare.proofs.places.cell_at.Reads as cell-at-reads
+use Rattle.compare.proofs.places.has.Reads as has-reads
+use Rattle.compare.proofs.places.word_at.Reads as word-at-reads
+use Rattle.compare.proofs.random.index.Reads as index-reads
+
+abbrev Inv-loop : tie.InvT-loop
+Inv-loop call declared place₀ i₀ place i = Unit
+
+abbrev μ-loop : tie.MeasureT-loop
+μ-loop call declared place₀ i₀ place i = call .length - i
+
+loop-holds : tie.Need-loop-holds Inv-loop μ-loop
+loop-holds c = tt
+
+byte-at-requires : tie.Need-byte-at-requires Inv-loop μ-loop
+byte-at-requires c κs = search needs
+
+index-requires : tie.Need-index-requires Inv-loop μ-loop
+index-requires c κs = search needs
+
+word-at-requires : tie.Need-word-at-requires Inv-loop μ-loop
+word-at-requires c κs = search needs
+
+cell-at-requires : tie.Need-cell-at-requires Inv-loop μ-loop
+cell-at-requires c κs = search needs
+
+has-requires : tie.Need-has-requires Inv-loop μ-loop
+has-requires c κs = search needs
+
+returns : tie.Need-returns Inv-loop μ-loop
+returns c = search needs
+
+place-after-requires : tie.Need-place-after-requires Inv-loop μ-loop
+place-after-requires c κs = search needs
+
+add-i : tie.Need-add-i Inv-loop μ-loop
+add-i c = search needs
+
+loop-less : tie.Need-loop-less Inv-loop μ-loop
+loop-less c = search needs
+
+loop-again : tie.Need-loop-again Inv-loop μ-loop
+loop-again c = tt
+
+returns-2 : tie.Need-returns-2 Inv-loop μ-loop
+returns-2 c = search needs
+
+pub any-undeclared-spec : {M : Type 1} → statement M
+any-undeclared-spec =
+    tie.close
+    (tie.spec
+    Inv-loop
+    μ-loop
+    loop-holds
+    byte-at-requires
+    index-requires
+    word-at-requires
+    cell-at-requires
+    has-requires
+    returns
+    place-after-requires
+    add-i
+    loop-less
+    loop-again
+    returns-2)

@@ -1,0 +1,67 @@
+use borrow.Author.Needs.{needs}
+use Prim.Native.Nat.{_-_, _≤_}
+use Rattle.compare.proofs.counts.write_refused.Statement.{statement}
+use Rattle.compare.proofs.counts.write_refused.Tie as tie
+use Rattle.compare.proofs.counts.write_refused.Reads as reads
+use Rattle.compare.proofs.counts.write_refused.Lts as lts
+use Rattle.compare.proofs.counts.counted.Reads as counted-reads
+use Rattle.compare.proofs.counts.write_line.Reads as write-line-reads
+use Rattle.compare.proofs.counts.write_number.Reads as write-number-reads
+use Rattle.io.proofs.write_all.Reads as write-all-reads
+
+abbrev Inv-loop : tie.InvT-loop
+Inv-loop counts number₀ t3 t4 number = Unit
+
+abbrev μ-loop : tie.MeasureT-loop
+μ-loop counts number₀ t3 t4 number = 14 - number
+
+loop-holds : tie.Need-loop-holds Inv-loop μ-loop
+loop-holds c = tt
+
+slice-aggregate-write-all : tie.Need-slice-aggregate-write-all Inv-loop μ-loop
+slice-aggregate-write-all c = search needs
+
+write-all-requires : tie.Need-write-all-requires Inv-loop μ-loop
+write-all-requires c κs = search needs
+
+write-number-requires : tie.Need-write-number-requires Inv-loop μ-loop
+write-number-requires c κs = search needs
+
+slice-aggregate-write-line : tie.Need-slice-aggregate-write-line Inv-loop μ-loop
+slice-aggregate-write-line c = search needs
+
+counted-requires : tie.Need-counted-requires Inv-loop μ-loop
+counted-requires c κs = search needs
+
+write-line-requires : tie.Need-write-line-requires Inv-loop μ-loop
+write-line-requires c κs = search needs
+
+add-number : tie.Need-add-number Inv-loop μ-loop
+add-number c = search needs
+
+loop-less : tie.Need-loop-less Inv-loop μ-loop
+loop-less c = search needs
+
+loop-again : tie.Need-loop-again Inv-loop μ-loop
+loop-again c = tt
+
+returns : tie.Need-returns Inv-loop μ-loop
+returns c = search needs
+
+pub write-refused-spec : {M : Type 1} → statement M
+write-refused-spec =
+    tie.close
+    (tie.spec
+    Inv-loop
+    μ-loop
+    loop-holds
+    slice-aggregate-write-all
+    write-all-requires
+    write-number-requires
+    slice-aggregate-write-line
+    counted-requires
+    write-line-requires
+    add-number
+    loop-less
+    loop-again
+    returns)

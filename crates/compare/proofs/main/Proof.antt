@@ -1,0 +1,63 @@
+use borrow.Author.Needs.{needs}
+use Prim.Native.Nat.{_-_, _≤_}
+use Rattle.compare.proofs.main.Statement.{statement}
+use Rattle.compare.proofs.main.Tie as tie
+use Rattle.compare.proofs.main.Reads as reads
+use Rattle.compare.proofs.main.Lts as lts
+use Rattle.compare.proofs.compare_network.Reads as compare-network-reads
+use Rattle.compare.proofs.counts.count.Reads as count-reads
+use Rattle.compare.proofs.counts.write_counts.Reads as write-counts-reads
+use Rattle.compare.proofs.is_crowded.Reads as is-crowded-reads
+
+abbrev Inv-loop : tie.InvT-loop
+Inv-loop counts₀ network₀ counts network = Unit
+
+abbrev μ-loop : tie.MeasureT-loop
+μ-loop counts₀ network₀ counts network = 2000 - network
+
+loop-holds : tie.Need-loop-holds Inv-loop μ-loop
+loop-holds c = tt
+
+compare-network-requires : tie.Need-compare-network-requires Inv-loop μ-loop
+compare-network-requires c κs = search needs
+
+count-requires : tie.Need-count-requires Inv-loop μ-loop
+count-requires c κs = search needs
+
+is-crowded-requires : tie.Need-is-crowded-requires Inv-loop μ-loop
+is-crowded-requires c κs = search needs
+
+count-requires-2 : tie.Need-count-requires-2 Inv-loop μ-loop
+count-requires-2 c κs = search needs
+
+add-network : tie.Need-add-network Inv-loop μ-loop
+add-network c = search needs
+
+loop-less : tie.Need-loop-less Inv-loop μ-loop
+loop-less c = search needs
+
+loop-again : tie.Need-loop-again Inv-loop μ-loop
+loop-again c = tt
+
+write-counts-requires : tie.Need-write-counts-requires Inv-loop μ-loop
+write-counts-requires c κs = search needs
+
+returns : tie.Need-returns Inv-loop μ-loop
+returns c = search needs
+
+pub main-spec : {M : Type 1} → statement M
+main-spec =
+    tie.close
+    (tie.spec
+    Inv-loop
+    μ-loop
+    loop-holds
+    compare-network-requires
+    count-requires
+    is-crowded-requires
+    count-requires-2
+    add-network
+    loop-less
+    loop-again
+    write-counts-requires
+    returns)

@@ -1,0 +1,48 @@
+use borrow.Author.Needs.{needs}
+use Prim.Native.Nat.{_-_, _≤_}
+use Rattle.compare.proofs.second_checks.any_large.Statement.{statement}
+use Rattle.compare.proofs.second_checks.any_large.Tie as tie
+use Rattle.compare.proofs.second_checks.any_large.Reads as reads
+use Rattle.compare.proofs.second_checks.any_large.Lts as lts
+use Rattle.compare.proofs.places.cell_at.Reads as cell-at-reads
+
+abbrev Inv-loop : tie.InvT-loop
+Inv-loop cells length i₀ i = Unit
+
+abbrev μ-loop : tie.MeasureT-loop
+μ-loop cells length i₀ i = length - i
+
+loop-holds : tie.Need-loop-holds Inv-loop μ-loop
+loop-holds c = tt
+
+cell-at-requires : tie.Need-cell-at-requires Inv-loop μ-loop
+cell-at-requires c κs = search needs
+
+returns : tie.Need-returns Inv-loop μ-loop
+returns c = search needs
+
+add-i : tie.Need-add-i Inv-loop μ-loop
+add-i c = search needs
+
+loop-less : tie.Need-loop-less Inv-loop μ-loop
+loop-less c = search needs
+
+loop-again : tie.Need-loop-again Inv-loop μ-loop
+loop-again c = tt
+
+returns-2 : tie.Need-returns-2 Inv-loop μ-loop
+returns-2 c = search needs
+
+pub any-large-spec : {M : Type 1} → statement M
+any-large-spec =
+    tie.close
+    (tie.spec
+    Inv-loop
+    μ-loop
+    loop-holds
+    cell-at-requires
+    returns
+    add-i
+    loop-less
+    loop-again
+    returns-2)

@@ -1,0 +1,53 @@
+use borrow.Author.Needs.{needs}
+use Prim.Native.Nat.{_-_, _≤_}
+use Rattle.compare.proofs.second_checks.any_unknown.Statement.{statement}
+use Rattle.compare.proofs.second_checks.any_unknown.Tie as tie
+use Rattle.compare.proofs.second_checks.any_unknown.Reads as reads
+use Rattle.compare.proofs.second_checks.any_unknown.Lts as lts
+use Rattle.compare.proofs.places.byte_at.Reads as byte-at-reads
+use Rattle.compare.proofs.random.index.Reads as index-reads
+
+abbrev Inv-loop : tie.InvT-loop
+Inv-loop scope arity variables i₀ i = Unit
+
+abbrev μ-loop : tie.MeasureT-loop
+μ-loop scope arity variables i₀ i = arity - i
+
+loop-holds : tie.Need-loop-holds Inv-loop μ-loop
+loop-holds c = tt
+
+byte-at-requires : tie.Need-byte-at-requires Inv-loop μ-loop
+byte-at-requires c κs = search needs
+
+index-requires : tie.Need-index-requires Inv-loop μ-loop
+index-requires c κs = search needs
+
+returns : tie.Need-returns Inv-loop μ-loop
+returns c = search needs
+
+add-i : tie.Need-add-i Inv-loop μ-loop
+add-i c = search needs
+
+loop-less : tie.Need-loop-less Inv-loop μ-loop
+loop-less c = search needs
+
+loop-again : tie.Need-loop-again Inv-loop μ-loop
+loop-again c = tt
+
+returns-2 : tie.Need-returns-2 Inv-loop μ-loop
+returns-2 c = search needs
+
+pub any-unknown-spec : {M : Type 1} → statement M
+any-unknown-spec =
+    tie.close
+    (tie.spec
+    Inv-loop
+    μ-loop
+    loop-holds
+    byte-at-requires
+    index-requires
+    returns
+    add-i
+    loop-less
+    loop-again
+    returns-2)

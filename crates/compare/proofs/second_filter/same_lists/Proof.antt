@@ -1,0 +1,52 @@
+use borrow.Author.Needs.{needs}
+use Prim.Native.Nat.{_-_, _≤_}
+use Rattle.compare.proofs.second_filter.same_lists.Statement.{statement}
+use Rattle.compare.proofs.second_filter.same_lists.Tie as tie
+use Rattle.compare.proofs.second_filter.same_lists.Reads as reads
+use Rattle.compare.proofs.second_filter.same_lists.Lts as lts
+use Rattle.compare.proofs.places.word_at.Reads as word-at-reads
+
+abbrev Inv-loop : tie.InvT-loop
+Inv-loop a b i₀ i = Unit
+
+abbrev μ-loop : tie.MeasureT-loop
+μ-loop a b i₀ i = 40 - i
+
+loop-holds : tie.Need-loop-holds Inv-loop μ-loop
+loop-holds c = tt
+
+word-at-requires : tie.Need-word-at-requires Inv-loop μ-loop
+word-at-requires c κs = search needs
+
+word-at-requires-2 : tie.Need-word-at-requires-2 Inv-loop μ-loop
+word-at-requires-2 c κs = search needs
+
+returns : tie.Need-returns Inv-loop μ-loop
+returns c = search needs
+
+add-i : tie.Need-add-i Inv-loop μ-loop
+add-i c = search needs
+
+loop-less : tie.Need-loop-less Inv-loop μ-loop
+loop-less c = search needs
+
+loop-again : tie.Need-loop-again Inv-loop μ-loop
+loop-again c = tt
+
+returns-2 : tie.Need-returns-2 Inv-loop μ-loop
+returns-2 c = search needs
+
+pub same-lists-spec : {M : Type 1} → statement M
+same-lists-spec =
+    tie.close
+    (tie.spec
+    Inv-loop
+    μ-loop
+    loop-holds
+    word-at-requires
+    word-at-requires-2
+    returns
+    add-i
+    loop-less
+    loop-again
+    returns-2)

@@ -1,0 +1,251 @@
+// The second solver's lists left: each rule's combinations of values left are enumerated, and a value in none that satisfies it goes.
+use crate::calls::ALLOW;
+use crate::calls::LINEAR;
+use crate::calls::PIN;
+use crate::places::LONG;
+use crate::places::SHORT;
+use crate::places::above;
+use crate::places::byte_at;
+use crate::places::cell_at;
+use crate::places::from;
+use crate::places::only;
+use crate::places::plus;
+use crate::places::put_byte;
+use crate::places::put_word;
+use crate::places::sum;
+use crate::places::times;
+use crate::places::word_at;
+use crate::random::index;
+use crate::random::wide;
+use crate::second::Record;
+use crate::second::Rule;
+
+// Each round that changes a list takes one of at most 32 times 64 values.
+const ROUNDS: usize = 2049;
+
+// The values left to each variable.
+pub(crate) fn left(record: Record) -> [u64; SHORT] {
+    let mut lists = decided(record);
+    let mut round = 0;
+    while round < ROUNDS {
+        let after = round_of(record, lists);
+        if same_lists(&lists, &after) {
+            return lists;
+        }
+        lists = after;
+        round += 1;
+    }
+    lists
+}
+
+fn same_lists(a: &[u64; SHORT], b: &[u64; SHORT]) -> bool {
+    let mut i = 0;
+    while i < SHORT {
+        if word_at(a, i) != word_at(b, i) {
+            return false;
+        }
+        i += 1;
+    }
+    true
+}
+
+// The declared values within the outstanding decisions.
+fn decided(record: Record) -> [u64; SHORT] {
+    let mut lists = record.declared;
+    let mut k = 0;
+    while k < record.decisions {
+        let x = index(byte_at(&record.decided_variable, k));
+        let value = only(byte_at(&record.decided_value, k));
+        let list = word_at(&lists, x);
+        if byte_at(&record.decided_kind, k) == PIN {
+            put_word(&mut lists, x, list & value);
+        } else {
+            put_word(&mut lists, x, list & (value ^ 0xffff_ffff_ffff_ffff));
+        }
+        k += 1;
+    }
+    lists
+}
+
+// The lists after each rule took what it gives no support.
+fn round_of(record: Record, lists: [u64; SHORT]) -> [u64; SHORT] {
+    let mut after = lists;
+    let mut k = 0;
+    while k < record.rules {
+        let narrowed = narrowed_by(record, k, after);
+        after = narrowed;
+        k += 1;
+    }
+    after
+}
+
+fn narrowed_by(record: Record, k: usize, lists: [u64; SHORT]) -> [u64; SHORT] {
+    if 48 <= k {
+        return lists;
+    }
+    let rule = record.rule[k];
+    let open = by_place(rule, &lists);
+    let kept = supported(rule, &record.cells, open);
+    by_variable(rule, kept, lists)
+}
+
+// The list of each place of the rule.
+fn by_place(rule: Rule, lists: &[u64; SHORT]) -> [u64; SHORT] {
+    let mut open = [0u64; SHORT];
+    let mut i = 0;
+    while i < rule.arity {
+        let x = index(byte_at(&rule.scope, i));
+        put_word(&mut open, i, word_at(lists, x));
+        i += 1;
+    }
+    open
+}
+
+fn by_variable(rule: Rule, kept: [u64; SHORT], lists: [u64; SHORT]) -> [u64; SHORT] {
+    let mut after = lists;
+    let mut i = 0;
+    while i < rule.arity {
+        let x = index(byte_at(&rule.scope, i));
+        put_word(&mut after, x, word_at(&kept, i));
+        i += 1;
+    }
+    after
+}
+
+// The values of each place that stand in a combination that satisfies the rule.
+fn supported(rule: Rule, cells: &[u8; LONG], open: [u64; SHORT]) -> [u64; SHORT] {
+    let total = combinations(&open, rule.arity);
+    let mut kept = [0u64; SHORT];
+    let mut values = lowest(&open, rule.arity);
+    let mut k: u64 = 0;
+    while k < total {
+        if satisfied(rule, cells, values) {
+            mark(&mut kept, values, rule.arity);
+        }
+        let after = next(&open, rule.arity, values);
+        values = after;
+        k += 1;
+    }
+    kept
+}
+
+fn mark(kept: &mut [u64; SHORT], values: [u8; SHORT], count: usize) {
+    let mut i = 0;
+    while i < count {
+        let list = word_at(kept, i);
+        put_word(kept, i, list | only(byte_at(&values, i)));
+        i += 1;
+    }
+}
+
+// How many combinations the first lists have.
+pub(crate) fn combinations(lists: &[u64; SHORT], count: usize) -> u64 {
+    let mut total: u64 = 1;
+    let mut i = 0;
+    while i < count {
+        total = times(total, size(word_at(lists, i)));
+        i += 1;
+    }
+    total
+}
+
+fn size(list: u64) -> u64 {
+    let mut count: u64 = 0;
+    let mut v = from(list, 0);
+    let mut i: u64 = 0;
+    while i < 64 {
+        if v < 64 {
+            count = sum(count, 1);
+        }
+        v = above(list, v);
+        i += 1;
+    }
+    count
+}
+
+// The first combination: the lowest value of each list.
+pub(crate) fn lowest(lists: &[u64; SHORT], count: usize) -> [u8; SHORT] {
+    let mut values = [0u8; SHORT];
+    let mut i = 0;
+    while i < count {
+        put_byte(&mut values, i, from(word_at(lists, i), 0));
+        i += 1;
+    }
+    values
+}
+
+// The next combination: the last value that can rises, and those behind it are the lowest.
+pub(crate) fn next(lists: &[u64; SHORT], count: usize, values: [u8; SHORT]) -> [u8; SHORT] {
+    let mut after = values;
+    let mut i = count;
+    while 0 < i {
+        i -= 1;
+        let list = word_at(lists, i);
+        let higher = above(list, byte_at(&after, i));
+        if higher < 64 {
+            put_byte(&mut after, i, higher);
+            return after;
+        }
+        put_byte(&mut after, i, from(list, 0));
+    }
+    after
+}
+
+// Whether the values of the rule's places satisfy it.
+pub(crate) fn satisfied(rule: Rule, cells: &[u8; LONG], values: [u8; SHORT]) -> bool {
+    if rule.sort == LINEAR {
+        return at_most(rule, values);
+    }
+    if rule.sort == ALLOW {
+        return listed(rule, cells, values);
+    }
+    !listed(rule, cells, values)
+}
+
+fn listed(rule: Rule, cells: &[u8; LONG], values: [u8; SHORT]) -> bool {
+    let mut start = rule.start;
+    let mut i = 0;
+    while i < rule.tuples {
+        if matches(cells, start, &values, rule.arity) {
+            return true;
+        }
+        start = plus(start, rule.arity);
+        i += 1;
+    }
+    false
+}
+
+fn matches(cells: &[u8; LONG], start: usize, values: &[u8; SHORT], arity: usize) -> bool {
+    let mut i = 0;
+    while i < arity {
+        if cell_at(cells, plus(start, i)) != byte_at(values, i) {
+            return false;
+        }
+        i += 1;
+    }
+    true
+}
+
+// Whether the sum is at most the bound: what is below zero goes to the other side.
+fn at_most(rule: Rule, values: [u8; SHORT]) -> bool {
+    let gains = side(rule, values, 0);
+    let losses = side(rule, values, 1);
+    if rule.bound_minus {
+        return sum(gains, rule.bound) <= losses;
+    }
+    gains <= sum(losses, rule.bound)
+}
+
+// The sum of the terms of one sign, without it.
+fn side(rule: Rule, values: [u8; SHORT], sign: u8) -> u64 {
+    let mut total: u64 = 0;
+    let mut i = 0;
+    while i < rule.arity {
+        if byte_at(&rule.minus, i) == sign {
+            let term = times(word_at(&rule.weights, i), wide(byte_at(&values, i)));
+            total = sum(total, term);
+        }
+        i += 1;
+    }
+    total
+}
