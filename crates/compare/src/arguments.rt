@@ -110,9 +110,9 @@ fn density(seed: u64, sort: u8) -> u8 {
         return 0;
     }
     if sort == ALLOW {
-        return 4 + pick(seed, 71, 11);
+        return 6 + pick(seed, 71, 10);
     }
-    1 + pick(seed, 71, 11)
+    1 + pick(seed, 71, 9)
 }
 
 fn tuples_at_most(arity: usize) -> u64
@@ -239,10 +239,13 @@ fn bound_of(seed: u64) -> u64 {
     if way == 1 {
         return 5_000_000;
     }
-    if way < 5 || chance(seed, 81, 6) {
-        return 1000 * wide(pick(seed, 87, 60));
+    if way < 4 || chance(seed, 81, 6) {
+        return 1000 * wide(pick(seed, 87, 120));
     }
-    wide(pick(seed, 88, 30))
+    if way < 14 {
+        return wide(pick(seed, 88, 20));
+    }
+    wide(pick(seed, 88, 200))
 }
 
 pub(crate) fn objectives_call(seed: u64, n: u8) -> Call {

@@ -176,7 +176,7 @@ fn full_room(network: u64, step: usize, lists: [u64; SHORT]) -> Call {
     if step < 60 {
         return lowest_call(PIN, small(step) % 8, lists);
     }
-    take_back_call(75 - step % 76)
+    take_back_call(step % 8)
 }
 
 fn first_half() -> Call {

@@ -254,8 +254,7 @@ pub(crate) fn called(s: State, call: Call) -> After
     let kind = call.kind;
     match kind {
         VARIABLE => variable_added(s, call.marks),
-        ALLOW => table_added(s, call),
-        FORBID => table_added(s, call),
+        ALLOW | FORBID => table_added(s, call),
         LINEAR => linear_added(s, call),
         OBJECTIVES => objectives_named(s, call),
         PIN => pinned(s, call.variable, call.value),

@@ -34,8 +34,8 @@ use second::Record;
 use second_filter::left;
 use state::State;
 
-// How many networks are compared; each hundredth is at the limits.
-const NETWORKS: u64 = 2000;
+// How many networks are compared; each fiftieth is at the limits.
+const NETWORKS: u64 = 4000;
 
 // What stands on both sides, and what was counted.
 struct Run {

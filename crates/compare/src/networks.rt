@@ -26,6 +26,7 @@ use crate::random::wide;
 // The calls of a small network.
 pub(crate) const CALLS: usize = 20;
 
+// The kinds of the calls, by the numbers of `calls`: one of sixteen is drawn.
 const FIRST: [u8; 16] = [0, 0, 0, 0, 0, 0, 0, 0, 0, 0, 0, 0, 0, 3, 4, 5];
 
 const NAMING: [u8; 16] = [4, 4, 4, 4, 4, 4, 4, 4, 4, 4, 4, 4, 4, 0, 1, 3];
@@ -37,13 +38,13 @@ const DECISIONS: [u8; 16] = [5, 5, 5, 5, 6, 6, 6, 6, 6, 6, 7, 7, 0, 1, 3, 4];
 // The kind of a call: first variables, then objectives, rules and decisions; all are taken back, and it goes on with rules.
 fn kind_of(seed: u64, step: usize) -> u8 {
     let r = pick(seed, 1, 16);
-    if step < 3 {
+    if step < 4 {
         return chosen(&FIRST, r);
     }
-    if step == 3 {
+    if step == 4 || step == 8 {
         return chosen(&NAMING, r);
     }
-    if step < 7 || step == 16 {
+    if step < 8 || step == 16 {
         return chosen(&RULES, r);
     }
     chosen(&DECISIONS, r)
@@ -72,17 +73,15 @@ pub(crate) fn small_call(
     }
     match kind {
         VARIABLE => variable_call(network, seed),
-        ALLOW => table_call(ALLOW, network, seed, small(n)),
-        FORBID => table_call(FORBID, network, seed, small(n)),
+        ALLOW | FORBID => table_call(kind, network, seed, small(n)),
         LINEAR => linear_call(seed, small(n)),
         OBJECTIVES => objectives_call(seed, small(n)),
-        PIN => decision_call(PIN, network, seed, small(n), lists),
-        BAN => decision_call(BAN, network, seed, small(n), lists),
+        PIN | BAN => decision_call(kind, network, seed, small(n), lists),
         _ => take_back_call(seed, depth),
     }
 }
 
-// The network's seven values; the last is declared nowhere.
+// The network's seven values; most variables declare some of the first six.
 pub(crate) fn value_of(network: u64, i: u8) -> u8 {
     let place = i % 7;
     let way = pick(network, 900, 5);

@@ -44,6 +44,20 @@ pub(crate) fn put_cell(cells: &mut [u8; LONG], i: usize, byte: u8) {
     }
 }
 
+// The number at a place of the second solver's room.
+pub(crate) fn number_at(room: &[u16; LONG], i: usize) -> u16 {
+    if i < LONG {
+        return room[i];
+    }
+    0
+}
+
+pub(crate) fn put_number(room: &mut [u16; LONG], i: usize, number: u16) {
+    if i < LONG {
+        room[i] = number;
+    }
+}
+
 pub(crate) fn plus(a: usize, b: usize) -> usize {
     std::num::wrapping_add_usize(a, b)
 }

@@ -50,6 +50,10 @@ pub(crate) fn wide(x: u8) -> u64
     x as u64
 }
 
+pub(crate) fn short(x: u8) -> u16 {
+    x as u16
+}
+
 pub(crate) fn index(x: u8) -> usize {
     x as usize
 }

@@ -6,8 +6,8 @@ use crate::places::LONG;
 use crate::places::SHORT;
 use crate::places::above;
 use crate::places::byte_at;
-use crate::places::cell_at;
 use crate::places::from;
+use crate::places::number_at;
 use crate::places::only;
 use crate::places::plus;
 use crate::places::put_byte;
@@ -16,6 +16,7 @@ use crate::places::sum;
 use crate::places::times;
 use crate::places::word_at;
 use crate::random::index;
+use crate::random::short;
 use crate::random::wide;
 use crate::second::Record;
 use crate::second::Rule;
@@ -25,10 +26,11 @@ const ROUNDS: usize = 2049;
 
 // The values left to each variable.
 pub(crate) fn left(record: Record) -> [u64; SHORT] {
+    let rules = record.rule;
     let mut lists = decided(record);
     let mut round = 0;
     while round < ROUNDS {
-        let after = round_of(record, lists);
+        let after = round_of(rules, record.rules, &record.room, lists);
         if same_lists(&lists, &after) {
             return lists;
         }
@@ -50,7 +52,7 @@ fn same_lists(a: &[u64; SHORT], b: &[u64; SHORT]) -> bool {
 }
 
 // The declared values within the outstanding decisions.
-fn decided(record: Record) -> [u64; SHORT] {
+pub(crate) fn decided(record: Record) -> [u64; SHORT] {
     let mut lists = record.declared;
     let mut k = 0;
     while k < record.decisions {
@@ -68,44 +70,67 @@ fn decided(record: Record) -> [u64; SHORT] {
 }
 
 // The lists after each rule took what it gives no support.
-fn round_of(record: Record, lists: [u64; SHORT]) -> [u64; SHORT] {
+fn round_of(
+    rules: [Rule; 48],
+    count: usize,
+    room: &[u16; LONG],
+    lists: [u64; SHORT],
+) -> [u64; SHORT] {
     let mut after = lists;
     let mut k = 0;
-    while k < record.rules {
-        let narrowed = narrowed_by(record, k, after);
+    while k < count {
+        let narrowed = narrowed_by(rule_at(rules, k), room, after);
         after = narrowed;
         k += 1;
     }
     after
 }
 
-fn narrowed_by(record: Record, k: usize, lists: [u64; SHORT]) -> [u64; SHORT] {
-    if 48 <= k {
-        return lists;
+// The k-th rule, below the 48th.
+pub(crate) fn rule_at(rules: [Rule; 48], k: usize) -> Rule {
+    if k < 48 {
+        return rules[k];
     }
-    let rule = record.rule[k];
-    let open = by_place(rule, &lists);
-    let kept = supported(rule, &record.cells, open);
-    by_variable(rule, kept, lists)
+    rules[0]
+}
+
+fn narrowed_by(rule: Rule, room: &[u16; LONG], lists: [u64; SHORT]) -> [u64; SHORT] {
+    let open = by_place(rule, room, &lists);
+    let kept = supported(rule, room, open);
+    by_variable(rule, room, kept, lists)
+}
+
+// The variable at a place of the rule.
+pub(crate) fn variable_at(rule: Rule, room: &[u16; LONG], place: usize) -> usize {
+    whole(number_at(room, plus(rule.start, place)))
+}
+
+fn whole(x: u16) -> usize {
+    x as usize
 }
 
 // The list of each place of the rule.
-fn by_place(rule: Rule, lists: &[u64; SHORT]) -> [u64; SHORT] {
+fn by_place(rule: Rule, room: &[u16; LONG], lists: &[u64; SHORT]) -> [u64; SHORT] {
     let mut open = [0u64; SHORT];
     let mut i = 0;
     while i < rule.arity {
-        let x = index(byte_at(&rule.scope, i));
+        let x = variable_at(rule, room, i);
         put_word(&mut open, i, word_at(lists, x));
         i += 1;
     }
     open
 }
 
-fn by_variable(rule: Rule, kept: [u64; SHORT], lists: [u64; SHORT]) -> [u64; SHORT] {
+fn by_variable(
+    rule: Rule,
+    room: &[u16; LONG],
+    kept: [u64; SHORT],
+    lists: [u64; SHORT],
+) -> [u64; SHORT] {
     let mut after = lists;
     let mut i = 0;
     while i < rule.arity {
-        let x = index(byte_at(&rule.scope, i));
+        let x = variable_at(rule, room, i);
         put_word(&mut after, x, word_at(&kept, i));
         i += 1;
     }
@@ -113,13 +138,13 @@ fn by_variable(rule: Rule, kept: [u64; SHORT], lists: [u64; SHORT]) -> [u64; SHO
 }
 
 // The values of each place that stand in a combination that satisfies the rule.
-fn supported(rule: Rule, cells: &[u8; LONG], open: [u64; SHORT]) -> [u64; SHORT] {
+fn supported(rule: Rule, room: &[u16; LONG], open: [u64; SHORT]) -> [u64; SHORT] {
     let total = combinations(&open, rule.arity);
     let mut kept = [0u64; SHORT];
     let mut values = lowest(&open, rule.arity);
     let mut k: u64 = 0;
     while k < total {
-        if satisfied(rule, cells, values) {
+        if satisfied(rule, room, values) {
             mark(&mut kept, values, rule.arity);
         }
         let after = next(&open, rule.arity, values);
@@ -192,21 +217,21 @@ pub(crate) fn next(lists: &[u64; SHORT], count: usize, values: [u8; SHORT]) -> [
 }
 
 // Whether the values of the rule's places satisfy it.
-pub(crate) fn satisfied(rule: Rule, cells: &[u8; LONG], values: [u8; SHORT]) -> bool {
+pub(crate) fn satisfied(rule: Rule, room: &[u16; LONG], values: [u8; SHORT]) -> bool {
     if rule.sort == LINEAR {
-        return at_most(rule, values);
+        return at_most(rule, room, values);
     }
     if rule.sort == ALLOW {
-        return listed(rule, cells, values);
+        return listed(rule, room, values);
     }
-    !listed(rule, cells, values)
+    !listed(rule, room, values)
 }
 
-fn listed(rule: Rule, cells: &[u8; LONG], values: [u8; SHORT]) -> bool {
-    let mut start = rule.start;
+fn listed(rule: Rule, room: &[u16; LONG], values: [u8; SHORT]) -> bool {
+    let mut start = plus(rule.start, rule.arity);
     let mut i = 0;
     while i < rule.tuples {
-        if matches(cells, start, &values, rule.arity) {
+        if matches(room, start, &values, rule.arity) {
             return true;
         }
         start = plus(start, rule.arity);
@@ -215,10 +240,10 @@ fn listed(rule: Rule, cells: &[u8; LONG], values: [u8; SHORT]) -> bool {
     false
 }
 
-fn matches(cells: &[u8; LONG], start: usize, values: &[u8; SHORT], arity: usize) -> bool {
+fn matches(room: &[u16; LONG], start: usize, values: &[u8; SHORT], arity: usize) -> bool {
     let mut i = 0;
     while i < arity {
-        if cell_at(cells, plus(start, i)) != byte_at(values, i) {
+        if number_at(room, plus(start, i)) != short(byte_at(values, i)) {
             return false;
         }
         i += 1;
@@ -227,9 +252,9 @@ fn matches(cells: &[u8; LONG], start: usize, values: &[u8; SHORT], arity: usize)
 }
 
 // Whether the sum is at most the bound: what is below zero goes to the other side.
-fn at_most(rule: Rule, values: [u8; SHORT]) -> bool {
-    let gains = side(rule, values, 0);
-    let losses = side(rule, values, 1);
+fn at_most(rule: Rule, room: &[u16; LONG], values: [u8; SHORT]) -> bool {
+    let gains = side(rule, room, values, 0);
+    let losses = side(rule, room, values, 1);
     if rule.bound_minus {
         return sum(gains, rule.bound) <= losses;
     }
@@ -237,15 +262,19 @@ fn at_most(rule: Rule, values: [u8; SHORT]) -> bool {
 }
 
 // The sum of the terms of one sign, without it.
-fn side(rule: Rule, values: [u8; SHORT], sign: u8) -> u64 {
+fn side(rule: Rule, room: &[u16; LONG], values: [u8; SHORT], sign: u16) -> u64 {
     let mut total: u64 = 0;
     let mut i = 0;
     while i < rule.arity {
-        if byte_at(&rule.minus, i) == sign {
-            let term = times(word_at(&rule.weights, i), wide(byte_at(&values, i)));
-            total = sum(total, term);
+        let code = number_at(room, plus(rule.start, plus(rule.arity, i)));
+        if code % 2 == sign {
+            total = sum(total, times(halved(code), wide(byte_at(&values, i))));
         }
         i += 1;
     }
     total
+}
+
+fn halved(code: u16) -> u64 {
+    (code / 2) as u64
 }

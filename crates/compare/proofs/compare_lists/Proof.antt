@@ -1,11 +1,8 @@
+-- `compare::compare_lists` meets its contract. Assumes nothing.
 use borrow.Author.Needs.{needs}
-use Prim.Native.Nat.{_-_, _≤_}
+use Prim.Native.Nat.{_-_}
 use Rattle.compare.proofs.compare_lists.Statement.{statement}
 use Rattle.compare.proofs.compare_lists.Tie as tie
-use Rattle.compare.proofs.compare_lists.Reads as reads
-use Rattle.compare.proofs.compare_lists.Lts as lts
-use Rattle.compare.proofs.compare_list.Reads as compare-list-reads
-use Rattle.compare.proofs.random.index.Reads as index-reads
 
 abbrev Inv-loop : tie.InvT-loop
 Inv-loop counts₀ s lists n x₀ counts x = Unit

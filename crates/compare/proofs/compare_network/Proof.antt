@@ -1,15 +1,10 @@
+-- `compare::compare_network` meets its contract. Assumes nothing.
 use borrow.Author.Needs.{needs}
-use Prim.Native.Nat.{_-_, _≤_}
+use Prim.Native.Nat.{_-_}
 use Rattle.state.proofs.Runs.{reached-new}
 use Rattle.state.specs.Holds.{Reached}
 use Rattle.compare.proofs.compare_network.Statement.{statement}
 use Rattle.compare.proofs.compare_network.Tie as tie
-use Rattle.compare.proofs.compare_network.Reads as reads
-use Rattle.compare.proofs.compare_network.Lts as lts
-use Rattle.compare.proofs.calls_of.Reads as calls-of-reads
-use Rattle.compare.proofs.second.empty.Reads as empty-reads
-use Rattle.compare.proofs.turn.Reads as turn-reads
-use Rattle.state.proofs.new.Reads as new-reads
 
 abbrev Inv-loop : tie.InvT-loop
 Inv-loop network run₀ calls i₀ run i = Reached (run .state)

@@ -1,19 +1,14 @@
+-- `compare::main` meets its contract. Assumes nothing.
 use borrow.Author.Needs.{needs}
-use Prim.Native.Nat.{_-_, _≤_}
+use Prim.Native.Nat.{_-_}
 use Rattle.compare.proofs.main.Statement.{statement}
 use Rattle.compare.proofs.main.Tie as tie
-use Rattle.compare.proofs.main.Reads as reads
-use Rattle.compare.proofs.main.Lts as lts
-use Rattle.compare.proofs.compare_network.Reads as compare-network-reads
-use Rattle.compare.proofs.counts.count.Reads as count-reads
-use Rattle.compare.proofs.counts.write_counts.Reads as write-counts-reads
-use Rattle.compare.proofs.is_crowded.Reads as is-crowded-reads
 
 abbrev Inv-loop : tie.InvT-loop
 Inv-loop counts₀ network₀ counts network = Unit
 
 abbrev μ-loop : tie.MeasureT-loop
-μ-loop counts₀ network₀ counts network = 2000 - network
+μ-loop counts₀ network₀ counts network = 4000 - network
 
 loop-holds : tie.Need-loop-holds Inv-loop μ-loop
 loop-holds c = tt

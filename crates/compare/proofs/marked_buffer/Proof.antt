@@ -1,11 +1,8 @@
+-- `compare::marked_buffer` meets its contract. Assumes nothing.
 use borrow.Author.Needs.{needs}
-use Prim.Native.Nat.{_-_, _≤_}
+use Prim.Native.Nat.{_-_}
 use Rattle.compare.proofs.marked_buffer.Statement.{statement}
 use Rattle.compare.proofs.marked_buffer.Tie as tie
-use Rattle.compare.proofs.marked_buffer.Reads as reads
-use Rattle.compare.proofs.marked_buffer.Lts as lts
-use Rattle.compare.proofs.places.put_byte.Reads as put-byte-reads
-use Rattle.compare.proofs.random.index.Reads as index-reads
 
 abbrev Inv-loop : tie.InvT-loop
 Inv-loop buffer₀ i₀ buffer i = Unit

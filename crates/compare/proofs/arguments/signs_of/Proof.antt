@@ -1,14 +1,8 @@
+-- `compare::arguments::signs_of` meets its contract. Assumes nothing.
 use borrow.Author.Needs.{needs}
-use Prim.Native.Nat.{_-_, _≤_}
+use Prim.Native.Nat.{_-_}
 use Rattle.compare.proofs.arguments.signs_of.Statement.{statement}
 use Rattle.compare.proofs.arguments.signs_of.Tie as tie
-use Rattle.compare.proofs.arguments.signs_of.Reads as reads
-use Rattle.compare.proofs.arguments.signs_of.Lts as lts
-use Rattle.compare.proofs.places.put_byte.Reads as put-byte-reads
-use Rattle.compare.proofs.random.pick.Reads as pick-reads
-use Rattle.compare.proofs.random.seed_of.Reads as seed-of-reads
-use Rattle.compare.proofs.random.small.Reads as small-reads
-use Rattle.compare.proofs.random.wide.Reads as wide-reads
 
 abbrev Inv-loop : tie.InvT-loop
 Inv-loop seed terms minus₀ part i₀ minus i = Unit

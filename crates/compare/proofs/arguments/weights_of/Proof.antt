@@ -1,17 +1,8 @@
+-- `compare::arguments::weights_of` meets its contract. Assumes nothing.
 use borrow.Author.Needs.{needs}
-use Prim.Native.Nat.{_-_, _≤_}
+use Prim.Native.Nat.{_-_}
 use Rattle.compare.proofs.arguments.weights_of.Statement.{statement}
 use Rattle.compare.proofs.arguments.weights_of.Tie as tie
-use Rattle.compare.proofs.arguments.weights_of.Reads as reads
-use Rattle.compare.proofs.arguments.weights_of.Lts as lts
-use Rattle.compare.proofs.arguments.weight_of.Reads as weight-of-reads
-use Rattle.compare.proofs.places.put_word.Reads as put-word-reads
-use Rattle.compare.proofs.random.chance.Reads as chance-reads
-use Rattle.compare.proofs.random.index.Reads as index-reads
-use Rattle.compare.proofs.random.pick.Reads as pick-reads
-use Rattle.compare.proofs.random.seed_of.Reads as seed-of-reads
-use Rattle.compare.proofs.random.small.Reads as small-reads
-use Rattle.compare.proofs.random.wide.Reads as wide-reads
 
 abbrev Inv-loop : tie.InvT-loop
 Inv-loop seed terms weights₀ large i₀ weights i = Unit

@@ -1,15 +1,8 @@
+-- `compare::counts::any_undeclared` meets its contract. Assumes nothing.
 use borrow.Author.Needs.{needs}
-use Prim.Native.Nat.{_-_, _≤_}
+use Prim.Native.Nat.{_-_}
 use Rattle.compare.proofs.counts.any_undeclared.Statement.{statement}
 use Rattle.compare.proofs.counts.any_undeclared.Tie as tie
-use Rattle.compare.proofs.counts.any_undeclared.Reads as reads
-use Rattle.compare.proofs.counts.any_undeclared.Lts as lts
-use Rattle.compare.proofs.counts.place_after.Reads as place-after-reads
-use Rattle.compare.proofs.places.byte_at.Reads as byte-at-reads
-use Rattle.compare.proofs.places.cell_at.Reads as cell-at-reads
-use Rattle.compare.proofs.places.has.Reads as has-reads
-use Rattle.compare.proofs.places.word_at.Reads as word-at-reads
-use Rattle.compare.proofs.random.index.Reads as index-reads
 
 abbrev Inv-loop : tie.InvT-loop
 Inv-loop call declared place₀ i₀ place i = Unit

@@ -1,10 +1,8 @@
+-- `compare::counts::any_zero` meets its contract. Assumes nothing.
 use borrow.Author.Needs.{needs}
-use Prim.Native.Nat.{_-_, _≤_}
+use Prim.Native.Nat.{_-_}
 use Rattle.compare.proofs.counts.any_zero.Statement.{statement}
 use Rattle.compare.proofs.counts.any_zero.Tie as tie
-use Rattle.compare.proofs.counts.any_zero.Reads as reads
-use Rattle.compare.proofs.counts.any_zero.Lts as lts
-use Rattle.compare.proofs.places.word_at.Reads as word-at-reads
 
 abbrev Inv-loop : tie.InvT-loop
 Inv-loop call i₀ i = Unit

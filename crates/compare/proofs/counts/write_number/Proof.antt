@@ -1,10 +1,7 @@
+-- `compare::counts::write_number` meets its contract. Assumes nothing.
 use borrow.Author.Needs.{needs}
-use Prim.Native.Nat.{_-_, _≤_}
 use Rattle.compare.proofs.counts.write_number.Statement.{statement}
 use Rattle.compare.proofs.counts.write_number.Tie as tie
-use Rattle.compare.proofs.counts.write_number.Reads as reads
-use Rattle.compare.proofs.counts.write_number.Lts as lts
-use Rattle.compare.proofs.counts.write_digit.Reads as write-digit-reads
 
 abbrev Inv-loop : tie.InvT-loop
 Inv-loop number power₀ power = Unit

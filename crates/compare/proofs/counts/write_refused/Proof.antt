@@ -1,13 +1,8 @@
+-- `compare::counts::write_refused` meets its contract. Assumes nothing.
 use borrow.Author.Needs.{needs}
-use Prim.Native.Nat.{_-_, _≤_}
+use Prim.Native.Nat.{_-_}
 use Rattle.compare.proofs.counts.write_refused.Statement.{statement}
 use Rattle.compare.proofs.counts.write_refused.Tie as tie
-use Rattle.compare.proofs.counts.write_refused.Reads as reads
-use Rattle.compare.proofs.counts.write_refused.Lts as lts
-use Rattle.compare.proofs.counts.counted.Reads as counted-reads
-use Rattle.compare.proofs.counts.write_line.Reads as write-line-reads
-use Rattle.compare.proofs.counts.write_number.Reads as write-number-reads
-use Rattle.io.proofs.write_all.Reads as write-all-reads
 
 abbrev Inv-loop : tie.InvT-loop
 Inv-loop counts number₀ t3 t4 number = Unit

@@ -1,12 +1,8 @@
+-- `compare::crowded::fill_codes` meets its contract. Assumes nothing.
 use borrow.Author.Needs.{needs}
-use Prim.Native.Nat.{_-_, _≤_}
+use Prim.Native.Nat.{_-_}
 use Rattle.compare.proofs.crowded.fill_codes.Statement.{statement}
 use Rattle.compare.proofs.crowded.fill_codes.Tie as tie
-use Rattle.compare.proofs.crowded.fill_codes.Reads as reads
-use Rattle.compare.proofs.crowded.fill_codes.Lts as lts
-use Rattle.compare.proofs.crowded.put_code.Reads as put-code-reads
-use Rattle.compare.proofs.places.plus.Reads as plus-reads
-use Rattle.compare.proofs.places.sum.Reads as sum-reads
 
 abbrev Inv-loop : tie.InvT-loop
 Inv-loop cells₀ first tuples end₀ i₀ cells end i = Unit

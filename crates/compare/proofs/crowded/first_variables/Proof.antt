@@ -1,11 +1,8 @@
+-- `compare::crowded::first_variables` meets its contract. Assumes nothing.
 use borrow.Author.Needs.{needs}
-use Prim.Native.Nat.{_-_, _≤_}
+use Prim.Native.Nat.{_-_}
 use Rattle.compare.proofs.crowded.first_variables.Statement.{statement}
 use Rattle.compare.proofs.crowded.first_variables.Tie as tie
-use Rattle.compare.proofs.crowded.first_variables.Reads as reads
-use Rattle.compare.proofs.crowded.first_variables.Lts as lts
-use Rattle.compare.proofs.places.put_byte.Reads as put-byte-reads
-use Rattle.compare.proofs.random.index.Reads as index-reads
 
 abbrev Inv-loop : tie.InvT-loop
 Inv-loop scope₀ i₀ scope i = Unit

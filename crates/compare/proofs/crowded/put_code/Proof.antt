@@ -1,12 +1,8 @@
+-- `compare::crowded::put_code` meets its contract. Assumes nothing.
 use borrow.Author.Needs.{needs}
-use Prim.Native.Nat.{_-_, _≤_}
+use Prim.Native.Nat.{_-_}
 use Rattle.compare.proofs.crowded.put_code.Statement.{statement}
 use Rattle.compare.proofs.crowded.put_code.Tie as tie
-use Rattle.compare.proofs.crowded.put_code.Reads as reads
-use Rattle.compare.proofs.crowded.put_code.Lts as lts
-use Rattle.compare.proofs.places.plus.Reads as plus-reads
-use Rattle.compare.proofs.places.put_cell.Reads as put-cell-reads
-use Rattle.compare.proofs.random.narrow.Reads as narrow-reads
 
 abbrev Inv-loop : tie.InvT-loop
 Inv-loop cells₀ start code rest₀ i₀ cells rest i = Unit

@@ -1,12 +1,9 @@
+-- `compare::library::banned` meets its contract. Assumes nothing.
 use borrow.Author.Needs.{needs}
 use Rattle.meaning.specs.Calls.{ban}
 use Rattle.state.proofs.Runs.{reached-after}
 use Rattle.compare.proofs.library.banned.Statement.{statement}
 use Rattle.compare.proofs.library.banned.Tie as tie
-use Rattle.compare.proofs.library.banned.Reads as reads
-use Rattle.compare.proofs.library.banned.Lts as lts
-use Rattle.compare.proofs.library.decision_answered.Reads as decision-answered-reads
-use Rattle.state.proofs.ban.Reads as ban-reads
 
 ban-requires : tie.Need-ban-requires
 ban-requires c κs = search needs

@@ -1,12 +1,8 @@
+-- `compare::library::coefficients_of` meets its contract. Assumes nothing.
 use borrow.Author.Needs.{needs}
-use Prim.Native.Nat.{_-_, _≤_}
+use Prim.Native.Nat.{_-_}
 use Rattle.compare.proofs.library.coefficients_of.Statement.{statement}
 use Rattle.compare.proofs.library.coefficients_of.Tie as tie
-use Rattle.compare.proofs.library.coefficients_of.Reads as reads
-use Rattle.compare.proofs.library.coefficients_of.Lts as lts
-use Rattle.compare.proofs.library.signed.Reads as signed-reads
-use Rattle.compare.proofs.places.byte_at.Reads as byte-at-reads
-use Rattle.compare.proofs.places.word_at.Reads as word-at-reads
 
 abbrev Inv-loop : tie.InvT-loop
 Inv-loop call coefficients₀ i₀ coefficients i = Unit

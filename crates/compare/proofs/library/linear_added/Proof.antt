@@ -1,3 +1,4 @@
+-- `compare::library::linear_added` meets its contract. Assumes nothing.
 use borrow.Author.Needs.{needs}
 use native.Mathlib.Omega.{arith}
 use lib.ListN.{length, take}
@@ -9,13 +10,6 @@ use Rattle.meaning.specs.Calls.{addLinear}
 use Rattle.state.proofs.Runs.{reached-after}
 use Rattle.compare.proofs.library.linear_added.Statement.{statement}
 use Rattle.compare.proofs.library.linear_added.Tie as tie
-use Rattle.compare.proofs.library.linear_added.Reads as reads
-use Rattle.compare.proofs.library.linear_added.Lts as lts
-use Rattle.compare.proofs.library.answered.Reads as answered-reads
-use Rattle.compare.proofs.library.at_most.Reads as at-most-reads
-use Rattle.compare.proofs.library.coefficients_of.Reads as coefficients-of-reads
-use Rattle.compare.proofs.library.signed.Reads as signed-reads
-use Rattle.state.proofs.add_linear.Reads as add-linear-reads
 
 coefficients-of-requires : tie.Need-coefficients-of-requires
 coefficients-of-requires c κs = search needs

@@ -1,3 +1,4 @@
+-- `compare::library::objectives_named` meets its contract. Assumes nothing.
 use borrow.Author.Needs.{needs}
 use native.Mathlib.Omega.{arith}
 use lib.ListN.{length, take}
@@ -7,11 +8,6 @@ use Rattle.meaning.specs.Calls.{nameObjectives}
 use Rattle.state.proofs.Runs.{reached-after}
 use Rattle.compare.proofs.library.objectives_named.Statement.{statement}
 use Rattle.compare.proofs.library.objectives_named.Tie as tie
-use Rattle.compare.proofs.library.objectives_named.Reads as reads
-use Rattle.compare.proofs.library.objectives_named.Lts as lts
-use Rattle.compare.proofs.library.answered.Reads as answered-reads
-use Rattle.compare.proofs.library.at_most.Reads as at-most-reads
-use Rattle.state.proofs.name_objectives.Reads as name-objectives-reads
 
 at-most-requires : tie.Need-at-most-requires
 at-most-requires c κs = search needs

@@ -1,12 +1,9 @@
+-- `compare::library::pinned` meets its contract. Assumes nothing.
 use borrow.Author.Needs.{needs}
 use Rattle.meaning.specs.Calls.{pin}
 use Rattle.state.proofs.Runs.{reached-after}
 use Rattle.compare.proofs.library.pinned.Statement.{statement}
 use Rattle.compare.proofs.library.pinned.Tie as tie
-use Rattle.compare.proofs.library.pinned.Reads as reads
-use Rattle.compare.proofs.library.pinned.Lts as lts
-use Rattle.compare.proofs.library.decision_answered.Reads as decision-answered-reads
-use Rattle.state.proofs.pin.Reads as pin-reads
 
 pin-requires : tie.Need-pin-requires
 pin-requires c κs = search needs

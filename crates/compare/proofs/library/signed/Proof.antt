@@ -1,3 +1,4 @@
+-- `compare::library::signed` meets its contract. Assumes nothing.
 use mathlib.Core.Path.{subst⁻¹}
 use Prim.Native.Nat.{ℕ, zero, suc, _^_, _<_}
 use native.Mathlib.Omega.{arith}
@@ -9,8 +10,6 @@ use mir.ValLaws.{toZ-pos}
 use borrow.Author.Needs.{needs}
 use Rattle.compare.proofs.library.signed.Statement.{statement}
 use Rattle.compare.proofs.library.signed.Tie as tie
-use Rattle.compare.proofs.library.signed.Reads as reads
-use Rattle.compare.proofs.library.signed.Lts as lts
 
 negative : (n : ℕ) → n < 2 ^ hbits w32 → SFits w32 (pos 0 -ℤ pos n)
 negative zero h = record { sfits = h }

@@ -1,3 +1,4 @@
+-- `compare::library::solved` meets its contract. Assumes nothing.
 use borrow.Author.Needs.{needs}
 use native.Mathlib.Omega.{arith}
 use lib.ListN.{length}
@@ -5,11 +6,6 @@ use mathlib.Core.Path.{_≡_, sym}
 use lib.Seq.{length-take-le}
 use Rattle.compare.proofs.library.solved.Statement.{statement}
 use Rattle.compare.proofs.library.solved.Tie as tie
-use Rattle.compare.proofs.library.solved.Reads as reads
-use Rattle.compare.proofs.library.solved.Lts as lts
-use Rattle.compare.proofs.library.at_most.Reads as at-most-reads
-use Rattle.compare.proofs.library.solving_answered.Reads as solving-answered-reads
-use Rattle.state.proofs.solve.Reads as solve-reads
 
 at-most-requires : tie.Need-at-most-requires
 at-most-requires c κs = search needs

@@ -1,3 +1,4 @@
+-- `compare::library::table_added` meets its contract. Assumes nothing.
 use borrow.Author.Needs.{needs}
 use native.Mathlib.Omega.{arith}
 use lib.ListN.{length, take}
@@ -8,12 +9,6 @@ use Rattle.meaning.specs.Calls.{addTable}
 use Rattle.state.proofs.Runs.{reached-after}
 use Rattle.compare.proofs.library.table_added.Statement.{statement}
 use Rattle.compare.proofs.library.table_added.Tie as tie
-use Rattle.compare.proofs.library.table_added.Reads as reads
-use Rattle.compare.proofs.library.table_added.Lts as lts
-use Rattle.compare.proofs.library.answered.Reads as answered-reads
-use Rattle.compare.proofs.library.at_most.Reads as at-most-reads
-use Rattle.compare.proofs.library.sort_of.Reads as sort-of-reads
-use Rattle.state.proofs.add_table.Reads as add-table-reads
 
 at-most-requires : tie.Need-at-most-requires
 at-most-requires c κs = search needs

@@ -1,12 +1,9 @@
+-- `compare::library::taken_back` meets its contract. Assumes nothing.
 use borrow.Author.Needs.{needs}
 use Rattle.meaning.specs.Calls.{takeBack}
 use Rattle.state.proofs.Runs.{reached-after}
 use Rattle.compare.proofs.library.taken_back.Statement.{statement}
 use Rattle.compare.proofs.library.taken_back.Tie as tie
-use Rattle.compare.proofs.library.taken_back.Reads as reads
-use Rattle.compare.proofs.library.taken_back.Lts as lts
-use Rattle.compare.proofs.library.answered.Reads as answered-reads
-use Rattle.state.proofs.take_back.Reads as take-back-reads
 
 take-back-requires : tie.Need-take-back-requires
 take-back-requires c κs = search needs

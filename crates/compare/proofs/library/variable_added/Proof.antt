@@ -1,12 +1,9 @@
+-- `compare::library::variable_added` meets its contract. Assumes nothing.
 use borrow.Author.Needs.{needs}
 use Rattle.meaning.specs.Calls.{addVariable}
 use Rattle.state.proofs.Runs.{reached-after}
 use Rattle.compare.proofs.library.variable_added.Statement.{statement}
 use Rattle.compare.proofs.library.variable_added.Tie as tie
-use Rattle.compare.proofs.library.variable_added.Reads as reads
-use Rattle.compare.proofs.library.variable_added.Lts as lts
-use Rattle.compare.proofs.library.answered.Reads as answered-reads
-use Rattle.state.proofs.add_variable.Reads as add-variable-reads
 
 add-variable-requires : tie.Need-add-variable-requires
 add-variable-requires c κs = search needs

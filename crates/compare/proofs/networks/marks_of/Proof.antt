@@ -1,13 +1,8 @@
+-- `compare::networks::marks_of` meets its contract. Assumes nothing.
 use borrow.Author.Needs.{needs}
-use Prim.Native.Nat.{_-_, _≤_}
+use Prim.Native.Nat.{_-_}
 use Rattle.compare.proofs.networks.marks_of.Statement.{statement}
 use Rattle.compare.proofs.networks.marks_of.Tie as tie
-use Rattle.compare.proofs.networks.marks_of.Reads as reads
-use Rattle.compare.proofs.networks.marks_of.Lts as lts
-use Rattle.compare.proofs.networks.value_of.Reads as value-of-reads
-use Rattle.compare.proofs.places.only.Reads as only-reads
-use Rattle.compare.proofs.random.pick.Reads as pick-reads
-use Rattle.compare.proofs.random.wide.Reads as wide-reads
 
 abbrev Inv-loop : tie.InvT-loop
 Inv-loop network seed marks₀ i₀ marks i = Unit

@@ -1,10 +1,8 @@
+-- `compare::places::from` meets its contract. Assumes nothing.
 use borrow.Author.Needs.{needs}
-use Prim.Native.Nat.{_-_, _≤_}
+use Prim.Native.Nat.{_-_}
 use Rattle.compare.proofs.places.from.Statement.{statement}
 use Rattle.compare.proofs.places.from.Tie as tie
-use Rattle.compare.proofs.places.from.Reads as reads
-use Rattle.compare.proofs.places.from.Lts as lts
-use Rattle.compare.proofs.places.has.Reads as has-reads
 
 abbrev Inv-loop : tie.InvT-loop
 Inv-loop list v w₀ w = Unit

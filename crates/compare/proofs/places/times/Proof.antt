@@ -1,10 +1,8 @@
+-- `compare::places::times` meets its contract. Assumes nothing.
 use borrow.Author.Needs.{needs}
-use Prim.Native.Nat.{_-_, _≤_}
+use Prim.Native.Nat.{_-_}
 use Rattle.compare.proofs.places.times.Statement.{statement}
 use Rattle.compare.proofs.places.times.Tie as tie
-use Rattle.compare.proofs.places.times.Reads as reads
-use Rattle.compare.proofs.places.times.Lts as lts
-use Rattle.compare.proofs.places.sum.Reads as sum-reads
 
 abbrev Inv-loop : tie.InvT-loop
 Inv-loop a b total₀ i₀ total i = Unit

@@ -1,12 +1,9 @@
+-- `compare::random::reduced` meets its contract. Assumes nothing.
 use borrow.Author.Needs.{needs}
 use native.Mathlib.Omega.{arith}
 use native.Mathlib.Nat.{mod-lt, pos-of-ne-zero}
 use Rattle.compare.proofs.random.reduced.Statement.{statement}
 use Rattle.compare.proofs.random.reduced.Tie as tie
-use Rattle.compare.proofs.random.reduced.Reads as reads
-use Rattle.compare.proofs.random.reduced.Lts as lts
-use Rattle.compare.proofs.random.narrow.Reads as narrow-reads
-use Rattle.compare.proofs.random.wide.Reads as wide-reads
 
 returns : tie.Need-returns
 returns c = search needs

@@ -1,10 +1,8 @@
+-- `compare::second_checks::among_first` meets its contract. Assumes nothing.
 use borrow.Author.Needs.{needs}
-use Prim.Native.Nat.{_-_, _≤_}
+use Prim.Native.Nat.{_-_}
 use Rattle.compare.proofs.second_checks.among_first.Statement.{statement}
 use Rattle.compare.proofs.second_checks.among_first.Tie as tie
-use Rattle.compare.proofs.second_checks.among_first.Reads as reads
-use Rattle.compare.proofs.second_checks.among_first.Lts as lts
-use Rattle.compare.proofs.places.byte_at.Reads as byte-at-reads
 
 abbrev Inv-loop : tie.InvT-loop
 Inv-loop scope count x i₀ i = Unit

@@ -1,10 +1,8 @@
+-- `compare::second_checks::any_heavy` meets its contract. Assumes nothing.
 use borrow.Author.Needs.{needs}
-use Prim.Native.Nat.{_-_, _≤_}
+use Prim.Native.Nat.{_-_}
 use Rattle.compare.proofs.second_checks.any_heavy.Statement.{statement}
 use Rattle.compare.proofs.second_checks.any_heavy.Tie as tie
-use Rattle.compare.proofs.second_checks.any_heavy.Reads as reads
-use Rattle.compare.proofs.second_checks.any_heavy.Lts as lts
-use Rattle.compare.proofs.places.word_at.Reads as word-at-reads
 
 abbrev Inv-loop : tie.InvT-loop
 Inv-loop weights terms i₀ i = Unit

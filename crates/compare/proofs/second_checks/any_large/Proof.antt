@@ -1,10 +1,8 @@
+-- `compare::second_checks::any_large` meets its contract. Assumes nothing.
 use borrow.Author.Needs.{needs}
-use Prim.Native.Nat.{_-_, _≤_}
+use Prim.Native.Nat.{_-_}
 use Rattle.compare.proofs.second_checks.any_large.Statement.{statement}
 use Rattle.compare.proofs.second_checks.any_large.Tie as tie
-use Rattle.compare.proofs.second_checks.any_large.Reads as reads
-use Rattle.compare.proofs.second_checks.any_large.Lts as lts
-use Rattle.compare.proofs.places.cell_at.Reads as cell-at-reads
 
 abbrev Inv-loop : tie.InvT-loop
 Inv-loop cells length i₀ i = Unit

@@ -1,11 +1,8 @@
+-- `compare::second_checks::any_twice` meets its contract. Assumes nothing.
 use borrow.Author.Needs.{needs}
-use Prim.Native.Nat.{_-_, _≤_}
+use Prim.Native.Nat.{_-_}
 use Rattle.compare.proofs.second_checks.any_twice.Statement.{statement}
 use Rattle.compare.proofs.second_checks.any_twice.Tie as tie
-use Rattle.compare.proofs.second_checks.any_twice.Reads as reads
-use Rattle.compare.proofs.second_checks.any_twice.Lts as lts
-use Rattle.compare.proofs.places.byte_at.Reads as byte-at-reads
-use Rattle.compare.proofs.second_checks.among_first.Reads as among-first-reads
 
 abbrev Inv-loop : tie.InvT-loop
 Inv-loop scope arity i₀ i = Unit

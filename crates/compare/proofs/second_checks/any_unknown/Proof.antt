@@ -1,11 +1,8 @@
+-- `compare::second_checks::any_unknown` meets its contract. Assumes nothing.
 use borrow.Author.Needs.{needs}
-use Prim.Native.Nat.{_-_, _≤_}
+use Prim.Native.Nat.{_-_}
 use Rattle.compare.proofs.second_checks.any_unknown.Statement.{statement}
 use Rattle.compare.proofs.second_checks.any_unknown.Tie as tie
-use Rattle.compare.proofs.second_checks.any_unknown.Reads as reads
-use Rattle.compare.proofs.second_checks.any_unknown.Lts as lts
-use Rattle.compare.proofs.places.byte_at.Reads as byte-at-reads
-use Rattle.compare.proofs.random.index.Reads as index-reads
 
 abbrev Inv-loop : tie.InvT-loop
 Inv-loop scope arity variables i₀ i = Unit

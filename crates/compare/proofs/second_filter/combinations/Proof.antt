@@ -1,12 +1,8 @@
+-- `compare::second_filter::combinations` meets its contract. Assumes nothing.
 use borrow.Author.Needs.{needs}
-use Prim.Native.Nat.{_-_, _≤_}
+use Prim.Native.Nat.{_-_}
 use Rattle.compare.proofs.second_filter.combinations.Statement.{statement}
 use Rattle.compare.proofs.second_filter.combinations.Tie as tie
-use Rattle.compare.proofs.second_filter.combinations.Reads as reads
-use Rattle.compare.proofs.second_filter.combinations.Lts as lts
-use Rattle.compare.proofs.places.times.Reads as times-reads
-use Rattle.compare.proofs.places.word_at.Reads as word-at-reads
-use Rattle.compare.proofs.second_filter.size.Reads as size-reads
 
 abbrev Inv-loop : tie.InvT-loop
 Inv-loop lists count total₀ i₀ total i = Unit

@@ -1,18 +1,13 @@
 use borrow.Author.Needs.{needs}
-use Prim.Native.Nat.{_-_, _≤_}
+use Prim.Native.Nat.{_-_}
 use Rattle.compare.proofs.second_filter.left.Statement.{statement}
 use Rattle.compare.proofs.second_filter.left.Tie as tie
-use Rattle.compare.proofs.second_filter.left.Reads as reads
-use Rattle.compare.proofs.second_filter.left.Lts as lts
-use Rattle.compare.proofs.second_filter.decided.Reads as decided-reads
-use Rattle.compare.proofs.second_filter.round_of.Reads as round-of-reads
-use Rattle.compare.proofs.second_filter.same_lists.Reads as same-lists-reads
 
 abbrev Inv-loop : tie.InvT-loop
-Inv-loop «record» lists₀ round₀ lists round = Unit
+Inv-loop «record» rules lists₀ round₀ lists round = Unit
 
 abbrev μ-loop : tie.MeasureT-loop
-μ-loop «record» lists₀ round₀ lists round = 2049 - round
+μ-loop «record» rules lists₀ round₀ lists round = 2049 - round
 
 decided-requires : tie.Need-decided-requires Inv-loop μ-loop
 decided-requires c κs = search needs

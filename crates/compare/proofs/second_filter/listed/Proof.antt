@@ -1,17 +1,16 @@
 use borrow.Author.Needs.{needs}
-use Prim.Native.Nat.{_-_, _≤_}
+use Prim.Native.Nat.{_-_}
 use Rattle.compare.proofs.second_filter.listed.Statement.{statement}
 use Rattle.compare.proofs.second_filter.listed.Tie as tie
-use Rattle.compare.proofs.second_filter.listed.Reads as reads
-use Rattle.compare.proofs.second_filter.listed.Lts as lts
-use Rattle.compare.proofs.places.plus.Reads as plus-reads
-use Rattle.compare.proofs.second_filter.matches.Reads as matches-reads
 
 abbrev Inv-loop : tie.InvT-loop
-Inv-loop rule cells values start₀ i₀ start i = Unit
+Inv-loop rule room values start₀ i₀ start i = Unit
 
 abbrev μ-loop : tie.MeasureT-loop
-μ-loop rule cells values start₀ i₀ start i = rule .tuples - i
+μ-loop rule room values start₀ i₀ start i = rule .tuples - i
+
+plus-requires : tie.Need-plus-requires Inv-loop μ-loop
+plus-requires c κs = search needs
 
 loop-holds : tie.Need-loop-holds Inv-loop μ-loop
 loop-holds c = tt
@@ -22,8 +21,8 @@ matches-requires c κs = search needs
 returns : tie.Need-returns Inv-loop μ-loop
 returns c = search needs
 
-plus-requires : tie.Need-plus-requires Inv-loop μ-loop
-plus-requires c κs = search needs
+plus-requires-2 : tie.Need-plus-requires-2 Inv-loop μ-loop
+plus-requires-2 c κs = search needs
 
 add-i : tie.Need-add-i Inv-loop μ-loop
 add-i c = search needs
@@ -43,10 +42,11 @@ listed-spec =
     (tie.spec
     Inv-loop
     μ-loop
+    plus-requires
     loop-holds
     matches-requires
     returns
-    plus-requires
+    plus-requires-2
     add-i
     loop-less
     loop-again

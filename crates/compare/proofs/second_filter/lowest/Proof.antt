@@ -1,12 +1,8 @@
+-- `compare::second_filter::lowest` meets its contract. Assumes nothing.
 use borrow.Author.Needs.{needs}
-use Prim.Native.Nat.{_-_, _≤_}
+use Prim.Native.Nat.{_-_}
 use Rattle.compare.proofs.second_filter.lowest.Statement.{statement}
 use Rattle.compare.proofs.second_filter.lowest.Tie as tie
-use Rattle.compare.proofs.second_filter.lowest.Reads as reads
-use Rattle.compare.proofs.second_filter.lowest.Lts as lts
-use Rattle.compare.proofs.places.from.Reads as from-reads
-use Rattle.compare.proofs.places.put_byte.Reads as put-byte-reads
-use Rattle.compare.proofs.places.word_at.Reads as word-at-reads
 
 abbrev Inv-loop : tie.InvT-loop
 Inv-loop lists count values₀ i₀ values i = Unit

@@ -1,13 +1,8 @@
+-- `compare::second_filter::mark` meets its contract. Assumes nothing.
 use borrow.Author.Needs.{needs}
-use Prim.Native.Nat.{_-_, _≤_}
+use Prim.Native.Nat.{_-_}
 use Rattle.compare.proofs.second_filter.mark.Statement.{statement}
 use Rattle.compare.proofs.second_filter.mark.Tie as tie
-use Rattle.compare.proofs.second_filter.mark.Reads as reads
-use Rattle.compare.proofs.second_filter.mark.Lts as lts
-use Rattle.compare.proofs.places.byte_at.Reads as byte-at-reads
-use Rattle.compare.proofs.places.only.Reads as only-reads
-use Rattle.compare.proofs.places.put_word.Reads as put-word-reads
-use Rattle.compare.proofs.places.word_at.Reads as word-at-reads
 
 abbrev Inv-loop : tie.InvT-loop
 Inv-loop kept₀ count values i₀ kept i = Unit

@@ -1,18 +1,13 @@
 use borrow.Author.Needs.{needs}
-use Prim.Native.Nat.{_-_, _≤_}
+use Prim.Native.Nat.{_-_}
 use Rattle.compare.proofs.second_filter.matches.Statement.{statement}
 use Rattle.compare.proofs.second_filter.matches.Tie as tie
-use Rattle.compare.proofs.second_filter.matches.Reads as reads
-use Rattle.compare.proofs.second_filter.matches.Lts as lts
-use Rattle.compare.proofs.places.byte_at.Reads as byte-at-reads
-use Rattle.compare.proofs.places.cell_at.Reads as cell-at-reads
-use Rattle.compare.proofs.places.plus.Reads as plus-reads
 
 abbrev Inv-loop : tie.InvT-loop
-Inv-loop cells start values arity i₀ i = Unit
+Inv-loop room start values arity i₀ i = Unit
 
 abbrev μ-loop : tie.MeasureT-loop
-μ-loop cells start values arity i₀ i = arity - i
+μ-loop room start values arity i₀ i = arity - i
 
 loop-holds : tie.Need-loop-holds Inv-loop μ-loop
 loop-holds c = tt
@@ -20,11 +15,14 @@ loop-holds c = tt
 plus-requires : tie.Need-plus-requires Inv-loop μ-loop
 plus-requires c κs = search needs
 
-cell-at-requires : tie.Need-cell-at-requires Inv-loop μ-loop
-cell-at-requires c κs = search needs
+number-at-requires : tie.Need-number-at-requires Inv-loop μ-loop
+number-at-requires c κs = search needs
 
 byte-at-requires : tie.Need-byte-at-requires Inv-loop μ-loop
 byte-at-requires c κs = search needs
+
+short-requires : tie.Need-short-requires Inv-loop μ-loop
+short-requires c κs = search needs
 
 returns : tie.Need-returns Inv-loop μ-loop
 returns c = search needs
@@ -49,8 +47,9 @@ matches-spec =
     μ-loop
     loop-holds
     plus-requires
-    cell-at-requires
+    number-at-requires
     byte-at-requires
+    short-requires
     returns
     add-i
     loop-less

@@ -1,14 +1,7 @@
+-- `compare::second_filter::next` meets its contract. Assumes nothing.
 use borrow.Author.Needs.{needs}
-use Prim.Native.Nat.{_-_, _≤_}
 use Rattle.compare.proofs.second_filter.next.Statement.{statement}
 use Rattle.compare.proofs.second_filter.next.Tie as tie
-use Rattle.compare.proofs.second_filter.next.Reads as reads
-use Rattle.compare.proofs.second_filter.next.Lts as lts
-use Rattle.compare.proofs.places.above.Reads as above-reads
-use Rattle.compare.proofs.places.byte_at.Reads as byte-at-reads
-use Rattle.compare.proofs.places.from.Reads as from-reads
-use Rattle.compare.proofs.places.put_byte.Reads as put-byte-reads
-use Rattle.compare.proofs.places.word_at.Reads as word-at-reads
 
 abbrev Inv-loop : tie.InvT-loop
 Inv-loop lists count after₀ i₀ after i = Unit

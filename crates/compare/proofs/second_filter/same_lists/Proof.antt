@@ -1,10 +1,8 @@
+-- `compare::second_filter::same_lists` meets its contract. Assumes nothing.
 use borrow.Author.Needs.{needs}
-use Prim.Native.Nat.{_-_, _≤_}
+use Prim.Native.Nat.{_-_}
 use Rattle.compare.proofs.second_filter.same_lists.Statement.{statement}
 use Rattle.compare.proofs.second_filter.same_lists.Tie as tie
-use Rattle.compare.proofs.second_filter.same_lists.Reads as reads
-use Rattle.compare.proofs.second_filter.same_lists.Lts as lts
-use Rattle.compare.proofs.places.word_at.Reads as word-at-reads
 
 abbrev Inv-loop : tie.InvT-loop
 Inv-loop a b i₀ i = Unit

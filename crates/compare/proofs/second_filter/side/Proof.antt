@@ -1,32 +1,31 @@
 use borrow.Author.Needs.{needs}
-use Prim.Native.Nat.{_-_, _≤_}
+use Prim.Native.Nat.{_-_}
 use Rattle.compare.proofs.second_filter.side.Statement.{statement}
 use Rattle.compare.proofs.second_filter.side.Tie as tie
-use Rattle.compare.proofs.second_filter.side.Reads as reads
-use Rattle.compare.proofs.second_filter.side.Lts as lts
-use Rattle.compare.proofs.places.byte_at.Reads as byte-at-reads
-use Rattle.compare.proofs.places.sum.Reads as sum-reads
-use Rattle.compare.proofs.places.times.Reads as times-reads
-use Rattle.compare.proofs.places.word_at.Reads as word-at-reads
-use Rattle.compare.proofs.random.wide.Reads as wide-reads
 
 abbrev Inv-loop : tie.InvT-loop
-Inv-loop sign rule values total₀ i₀ total i = Unit
+Inv-loop rule room sign values total₀ i₀ total i = Unit
 
 abbrev μ-loop : tie.MeasureT-loop
-μ-loop sign rule values total₀ i₀ total i = rule .arity - i
+μ-loop rule room sign values total₀ i₀ total i = rule .arity - i
 
 loop-holds : tie.Need-loop-holds Inv-loop μ-loop
 loop-holds c = tt
 
+plus-requires : tie.Need-plus-requires Inv-loop μ-loop
+plus-requires c κs = search needs
+
+plus-requires-2 : tie.Need-plus-requires-2 Inv-loop μ-loop
+plus-requires-2 c κs = search needs
+
+number-at-requires : tie.Need-number-at-requires Inv-loop μ-loop
+number-at-requires c κs = search needs
+
+halved-requires : tie.Need-halved-requires Inv-loop μ-loop
+halved-requires c κs = search needs
+
 byte-at-requires : tie.Need-byte-at-requires Inv-loop μ-loop
 byte-at-requires c κs = search needs
-
-word-at-requires : tie.Need-word-at-requires Inv-loop μ-loop
-word-at-requires c κs = search needs
-
-byte-at-requires-2 : tie.Need-byte-at-requires-2 Inv-loop μ-loop
-byte-at-requires-2 c κs = search needs
 
 wide-requires : tie.Need-wide-requires Inv-loop μ-loop
 wide-requires c κs = search needs
@@ -56,9 +55,11 @@ side-spec =
     Inv-loop
     μ-loop
     loop-holds
+    plus-requires
+    plus-requires-2
+    number-at-requires
+    halved-requires
     byte-at-requires
-    word-at-requires
-    byte-at-requires-2
     wide-requires
     times-requires
     sum-requires

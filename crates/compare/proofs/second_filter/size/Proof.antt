@@ -1,12 +1,8 @@
+-- `compare::second_filter::size` meets its contract. Assumes nothing.
 use borrow.Author.Needs.{needs}
-use Prim.Native.Nat.{_-_, _≤_}
+use Prim.Native.Nat.{_-_}
 use Rattle.compare.proofs.second_filter.size.Statement.{statement}
 use Rattle.compare.proofs.second_filter.size.Tie as tie
-use Rattle.compare.proofs.second_filter.size.Reads as reads
-use Rattle.compare.proofs.second_filter.size.Lts as lts
-use Rattle.compare.proofs.places.above.Reads as above-reads
-use Rattle.compare.proofs.places.from.Reads as from-reads
-use Rattle.compare.proofs.places.sum.Reads as sum-reads
 
 abbrev Inv-loop : tie.InvT-loop
 Inv-loop list count₀ v₀ i₀ count v i = Unit

@@ -1,20 +1,13 @@
 use borrow.Author.Needs.{needs}
-use Prim.Native.Nat.{_-_, _≤_}
+use Prim.Native.Nat.{_-_}
 use Rattle.compare.proofs.second_filter.supported.Statement.{statement}
 use Rattle.compare.proofs.second_filter.supported.Tie as tie
-use Rattle.compare.proofs.second_filter.supported.Reads as reads
-use Rattle.compare.proofs.second_filter.supported.Lts as lts
-use Rattle.compare.proofs.second_filter.combinations.Reads as combinations-reads
-use Rattle.compare.proofs.second_filter.lowest.Reads as lowest-reads
-use Rattle.compare.proofs.second_filter.mark.Reads as mark-reads
-use Rattle.compare.proofs.second_filter.next.Reads as next-reads
-use Rattle.compare.proofs.second_filter.satisfied.Reads as satisfied-reads
 
 abbrev Inv-loop : tie.InvT-loop
-Inv-loop rule cells «open» total kept₀ values₀ k₀ kept values k = Unit
+Inv-loop rule room «open» total kept₀ values₀ k₀ kept values k = Unit
 
 abbrev μ-loop : tie.MeasureT-loop
-μ-loop rule cells «open» total kept₀ values₀ k₀ kept values k = total - k
+μ-loop rule room «open» total kept₀ values₀ k₀ kept values k = total - k
 
 combinations-requires : tie.Need-combinations-requires Inv-loop μ-loop
 combinations-requires c κs = search needs
