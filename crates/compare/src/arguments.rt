@@ -16,6 +16,7 @@ use crate::places::put_cell;
 use crate::places::put_word;
 use crate::places::times;
 use crate::random::chance;
+use crate::random::fault;
 use crate::random::index;
 use crate::random::pick;
 use crate::random::seed_of;
@@ -69,9 +70,13 @@ fn scope_of(seed: u64, n: u8, arity: usize) -> [u8; SHORT] {
         x = beside(x, n, up);
         i += 1;
     }
-    if chance(seed, 52, 16) {
+    if fault(seed, 52, 16) {
         let place = index(pick(seed, 53, small(arity)));
         put_byte(&mut scope, place, pick(seed, 54, 6));
+    }
+    if fault(seed, 55, 40) {
+        let place = index(pick(seed, 56, small(arity)));
+        put_byte(&mut scope, place, pick(seed, 57, 40));
     }
     scope
 }
@@ -79,10 +84,10 @@ fn scope_of(seed: u64, n: u8, arity: usize) -> [u8; SHORT] {
 pub(crate) fn table_call(sort: u8, network: u64, seed: u64, n: u8) -> Call {
     let mut call = blank(sort);
     let mut arity = index(arity_of(seed, 60, n, 3));
-    if chance(seed, 61, 40) {
+    if fault(seed, 61, 40) {
         arity = 0;
     }
-    if chance(seed, 62, 40) {
+    if fault(seed, 62, 40) {
         arity = 9;
     }
     let scope = scope_of(seed, n, arity);
@@ -90,13 +95,13 @@ pub(crate) fn table_call(sort: u8, network: u64, seed: u64, n: u8) -> Call {
     call.arity = arity;
     let mut cells = [0u8; LONG];
     let mut length = fill(&mut cells, network, seed, arity, density(seed, sort));
-    if chance(seed, 63, 16) {
+    if fault(seed, 63, 16) {
         length = repeat_first(&mut cells, length, arity);
     }
-    if chance(seed, 64, 40) {
+    if fault(seed, 64, 40) {
         length = plus(length, 1);
     }
-    if chance(seed, 65, 30) {
+    if fault(seed, 65, 30) {
         put_cell(&mut cells, 0, 64 + pick(seed, 66, 100));
     }
     call.cells = cells;
@@ -170,10 +175,10 @@ fn repeat_first(cells: &mut [u8; LONG], length: usize, arity: usize) -> usize {
 pub(crate) fn linear_call(seed: u64, n: u8) -> Call {
     let mut call = blank(LINEAR);
     let mut arity = index(arity_of(seed, 60, n, 6));
-    if chance(seed, 61, 40) {
+    if fault(seed, 61, 40) {
         arity = 0;
     }
-    if chance(seed, 62, 40) {
+    if fault(seed, 62, 40) {
         arity = 33;
     }
     let scope = scope_of(seed, n, arity);
@@ -186,7 +191,7 @@ pub(crate) fn linear_call(seed: u64, n: u8) -> Call {
     call.terms = arity;
     call.bound = bound_of(seed);
     call.bound_minus = chance(seed, 80, 8);
-    if chance(seed, 63, 40) {
+    if fault(seed, 63, 40) {
         call.terms = plus(arity, 1);
     }
     call
@@ -205,7 +210,7 @@ fn weights_of(seed: u64, terms: usize) -> [u64; SHORT] {
         );
         i += 1;
     }
-    if chance(seed, 83, 30) {
+    if fault(seed, 83, 30) {
         put_word(&mut weights, index(pick(seed, 84, small(terms))), 1001);
     }
     weights
@@ -251,7 +256,7 @@ fn bound_of(seed: u64) -> u64 {
 pub(crate) fn objectives_call(seed: u64, n: u8) -> Call {
     let mut call = blank(OBJECTIVES);
     let mut count = plus(1, index(pick(seed, 90, 4)));
-    if chance(seed, 91, 12) {
+    if fault(seed, 91, 12) {
         count = index(pick(seed, 92, 20));
     }
     let named = named_of(seed, n, count);
@@ -268,7 +273,7 @@ fn named_of(seed: u64, n: u8, count: usize) -> [u8; SHORT] {
         put_byte(&mut named, i, pick(part, wide(small(i)), n));
         i += 1;
     }
-    if chance(seed, 94, 16) {
+    if fault(seed, 94, 16) {
         put_byte(&mut named, 0, pick(seed, 95, 40));
     }
     named

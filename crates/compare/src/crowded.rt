@@ -72,6 +72,17 @@ fn lowest_call(kind: u8, x: u8, lists: [u64; SHORT]) -> Call {
     call
 }
 
+// A decision on a value that is not left, or out of range.
+fn removed_call(kind: u8, way: usize, lists: [u64; SHORT]) -> Call {
+    let mut call = lowest_call(kind, 0, lists);
+    if way == 0 {
+        call.value = 64;
+        return call;
+    }
+    call.value = 63 - from(word_at(&lists, 0), 0) % 64;
+    call
+}
+
 // The first variables, each with the same coefficient.
 fn even_call(terms: usize, weight: u64, bound: u64) -> Call {
     let mut call = blank(LINEAR);
@@ -108,7 +119,7 @@ fn many_variables(network: u64, step: usize, depth: usize, lists: [u64; SHORT]) 
         return variable_call(only(pick(network, wide(small(step)), 64)));
     }
     if step == 33 {
-        return even_call(32, 1000, 1000 * wide(pick(network, 40, 255)));
+        return even_call(32, 1000, 800_000 + 2000 * wide(pick(network, 40, 255)));
     }
     if step == 34 {
         return first_objectives();
@@ -125,7 +136,10 @@ fn many_variables(network: u64, step: usize, depth: usize, lists: [u64; SHORT]) 
     if step == 71 {
         return take_back_call(depth);
     }
-    if step == 72 {
+    if step < 74 {
+        return removed_call(BAN, step % 2, lists);
+    }
+    if step == 74 {
         return take_back_call(0);
     }
     even_call(32, 2, 2048)
@@ -144,6 +158,9 @@ fn many_rules(network: u64, step: usize, n: usize, lists: [u64; SHORT]) -> Call 
         );
     }
     if step == 52 {
+        return even_call(1, 1001, 200);
+    }
+    if step == 53 {
         return first_objectives();
     }
     if step < 60 {
@@ -165,12 +182,15 @@ fn full_room(network: u64, step: usize, lists: [u64; SHORT]) -> Call {
         return large_table(network, 512);
     }
     if step == 9 {
+        return large_table(network, 513);
+    }
+    if step == 10 {
         return large_table(network, 509 + wide(pick(network, 41, 3)));
     }
-    if step < 19 {
+    if step < 20 {
         return even_call(1, 1, 3);
     }
-    if step == 19 {
+    if step == 20 {
         return first_half();
     }
     if step < 60 {

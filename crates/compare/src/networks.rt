@@ -18,6 +18,7 @@ use crate::places::only;
 use crate::places::plus;
 use crate::places::word_at;
 use crate::random::chance;
+use crate::random::fault;
 use crate::random::index;
 use crate::random::pick;
 use crate::random::small;
@@ -128,15 +129,15 @@ pub(crate) fn decision_call(kind: u8, network: u64, seed: u64, n: u8, lists: [u6
     let mut call = blank(kind);
     let wanted = value_of(network, pick(seed, 30, 7));
     let mut x = pick(seed, 31, n);
-    if chance(seed, 32, 20) {
+    if fault(seed, 32, 20) {
         x = pick(seed, 33, 40);
     }
     call.variable = x;
     call.value = left_near(word_at(&lists, index(x)), wanted);
-    if chance(seed, 34, 8) {
+    if fault(seed, 34, 8) {
         call.value = wanted;
     }
-    if chance(seed, 35, 20) {
+    if fault(seed, 35, 20) {
         call.value = pick(seed, 36, 255);
     }
     call
@@ -157,7 +158,7 @@ fn left_near(list: u64, v: u8) -> u8 {
 fn take_back_call(seed: u64, depth: usize) -> Call {
     let mut call = blank(TAKE_BACK);
     call.depth = index(pick(seed, 40, small(plus(depth, 1))));
-    if chance(seed, 41, 8) {
+    if fault(seed, 41, 8) {
         call.depth = plus(depth, plus(1, index(pick(seed, 42, 3))));
     }
     call

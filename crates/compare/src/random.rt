@@ -44,6 +44,14 @@ pub(crate) fn chance(seed: u64, place: u64, of: u8) -> bool {
     pick(seed, place, of) == 0
 }
 
+// Whether an argument is wrong on purpose: by one of so many chances, and by one of three where the call is careless.
+pub(crate) fn fault(seed: u64, place: u64, of: u8) -> bool {
+    if chance(seed, 99, 8) {
+        return chance(seed, place, 3);
+    }
+    chance(seed, place, of)
+}
+
 pub(crate) fn wide(x: u8) -> u64
     ensures { λ r. ⌜ (r ≡ x) × (r ≤ 255) ⌝ }
 {

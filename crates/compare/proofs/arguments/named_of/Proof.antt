@@ -1,4 +1,3 @@
--- `compare::arguments::named_of` meets its contract. Assumes nothing.
 use borrow.Author.Needs.{needs}
 use Prim.Native.Nat.{_-_}
 use Rattle.compare.proofs.arguments.named_of.Statement.{statement}
@@ -37,8 +36,8 @@ loop-less c = search needs
 loop-again : tie.Need-loop-again Inv-loop μ-loop
 loop-again c = tt
 
-chance-requires : tie.Need-chance-requires Inv-loop μ-loop
-chance-requires c κs = search needs
+fault-requires : tie.Need-fault-requires Inv-loop μ-loop
+fault-requires c κs = search needs
 
 pick-requires-2 : tie.Need-pick-requires-2 Inv-loop μ-loop
 pick-requires-2 c κs = search needs
@@ -67,7 +66,7 @@ named-of-spec =
     add-i
     loop-less
     loop-again
-    chance-requires
+    fault-requires
     pick-requires-2
     put-byte-requires-2
     returns

@@ -1,4 +1,3 @@
--- `compare::arguments::weights_of` meets its contract. Assumes nothing.
 use borrow.Author.Needs.{needs}
 use Prim.Native.Nat.{_-_}
 use Rattle.compare.proofs.arguments.weights_of.Statement.{statement}
@@ -40,8 +39,8 @@ loop-less c = search needs
 loop-again : tie.Need-loop-again Inv-loop μ-loop
 loop-again c = tt
 
-chance-requires-2 : tie.Need-chance-requires-2 Inv-loop μ-loop
-chance-requires-2 c κs = search needs
+fault-requires : tie.Need-fault-requires Inv-loop μ-loop
+fault-requires c κs = search needs
 
 small-requires-2 : tie.Need-small-requires-2 Inv-loop μ-loop
 small-requires-2 c κs = search needs
@@ -77,7 +76,7 @@ weights-of-spec =
     add-i
     loop-less
     loop-again
-    chance-requires-2
+    fault-requires
     small-requires-2
     pick-requires
     index-requires
