@@ -8,13 +8,11 @@ use crate::calls::blank;
 use crate::networks::value_of;
 use crate::places::LONG;
 use crate::places::SHORT;
-use crate::places::byte_at;
 use crate::places::cell_at;
 use crate::places::plus;
 use crate::places::put_byte;
 use crate::places::put_cell;
 use crate::places::put_word;
-use crate::places::times;
 use crate::random::chance;
 use crate::random::fault;
 use crate::random::index;
@@ -59,7 +57,7 @@ fn or_first(x: u8, n: u8) -> u8 {
     0
 }
 
-// So many variables side by side; now and then one of them is another, known or not.
+// So many variables side by side; now and then one of them is another, known or not, or stands twice.
 fn scope_of(seed: u64, n: u8, arity: usize) -> [u8; SHORT] {
     let mut scope = [0u8; SHORT];
     let up = chance(seed, 50, 2);
@@ -75,8 +73,9 @@ fn scope_of(seed: u64, n: u8, arity: usize) -> [u8; SHORT] {
         put_byte(&mut scope, place, pick(seed, 54, 6));
     }
     if fault(seed, 55, 40) {
-        let place = index(pick(seed, 56, small(arity)));
-        put_byte(&mut scope, place, pick(seed, 57, 40));
+        let twice = pick(seed, 57, 10);
+        put_byte(&mut scope, 0, twice);
+        put_byte(&mut scope, index(pick(seed, 56, small(arity))), twice);
     }
     scope
 }

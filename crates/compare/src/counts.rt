@@ -1,19 +1,18 @@
 // What was compared, counted and written. The first places count the answers to calls: 0 accepted, else the refusal's number.
 use crate::calls::ALLOW;
-use crate::calls::BAN;
 use crate::calls::Call;
 use crate::calls::FORBID;
 use crate::calls::LINEAR;
 use crate::calls::OBJECTIVES;
-use crate::calls::PIN;
-use crate::calls::TAKE_BACK;
 use crate::calls::VARIABLE;
 use crate::places::SHORT;
 use crate::places::byte_at;
 use crate::places::cell_at;
 use crate::places::has;
+use crate::places::plus;
 use crate::places::word_at;
 use crate::random::index;
+use crate::second_checks::any_twice;
 
 pub(crate) const KINDS: usize = 40;
 
@@ -62,7 +61,7 @@ fn count_if(counts: &mut [u64; KINDS], kind: usize, test: bool) {
 // Counts an accepted call by its kind, and by what is special about it.
 pub(crate) fn count_accepted(counts: &mut [u64; KINDS], call: Call, declared: [u64; SHORT]) {
     let kind = call.kind;
-    count(counts, crate::places::plus(KIND, index(kind)));
+    count(counts, plus(KIND, index(kind)));
     if kind == VARIABLE {
         count_if(counts, EMPTY_SET, call.marks == 0);
     }
@@ -95,7 +94,7 @@ fn any_undeclared(call: Call, declared: [u64; SHORT]) -> bool {
 }
 
 fn place_after(place: usize, arity: usize) -> usize {
-    let next = crate::places::plus(place, 1);
+    let next = plus(place, 1);
     if next < arity {
         return next;
     }
@@ -125,7 +124,7 @@ fn any_zero(call: Call) -> bool {
 }
 
 fn any_repeated(call: Call) -> bool {
-    crate::second_checks::any_twice(&call.scope, call.arity)
+    any_twice(&call.scope, call.arity)
 }
 
 fn counted(counts: &[u64; KINDS], kind: usize) -> u64 {

@@ -17,12 +17,13 @@ use crate::places::only;
 use crate::places::plus;
 use crate::places::put_byte;
 use crate::places::put_cell;
-use crate::places::put_word;
+use crate::places::sum;
 use crate::places::word_at;
 use crate::random::chance;
 use crate::random::index;
 use crate::random::narrow;
 use crate::random::pick;
+use crate::random::seed_of;
 use crate::random::small;
 use crate::random::wide;
 
@@ -170,7 +171,7 @@ fn many_rules(network: u64, step: usize, n: usize, lists: [u64; SHORT]) -> Call 
 }
 
 fn seed_at(network: u64, step: usize) -> u64 {
-    crate::random::seed_of(network, 500 + wide(small(step)))
+    seed_of(network, 500 + wide(small(step)))
 }
 
 // Eight variables of two values, a table that takes nearly all room, and rules of three numbers until none is left.
@@ -222,7 +223,7 @@ fn fill_codes(cells: &mut [u8; LONG], first: u64, tuples: u64) -> usize {
     let mut end = 0;
     let mut i: u64 = 0;
     while i < tuples {
-        put_code(cells, end, crate::places::sum(first, i) % 512);
+        put_code(cells, end, sum(first, i) % 512);
         end = plus(end, 8);
         i += 1;
     }

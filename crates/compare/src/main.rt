@@ -155,7 +155,7 @@ fn note_solved(counts: &mut [u64; KINDS], number: u8) {
     }
 }
 
-// Whether the network is at the limits, and how many calls it gets.
+// Whether the network is one at the limits.
 fn is_crowded(network: u64) -> bool {
     network % 50 == 49
 }

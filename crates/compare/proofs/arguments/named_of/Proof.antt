@@ -1,3 +1,4 @@
+-- `compare::arguments::named_of` meets its contract. Assumes nothing.
 use borrow.Author.Needs.{needs}
 use Prim.Native.Nat.{_-_}
 use Rattle.compare.proofs.arguments.named_of.Statement.{statement}

@@ -1,3 +1,4 @@
+-- `compare::arguments::scope_of` meets its contract. Assumes nothing.
 use borrow.Author.Needs.{needs}
 use Prim.Native.Nat.{_-_}
 use Rattle.compare.proofs.arguments.scope_of.Statement.{statement}
@@ -54,20 +55,23 @@ put-byte-requires-2 c κs = search needs
 fault-requires-2 : tie.Need-fault-requires-2 Inv-loop μ-loop
 fault-requires-2 c κs = search needs
 
-small-requires-2 : tie.Need-small-requires-2 Inv-loop μ-loop
-small-requires-2 c κs = search needs
-
 pick-requires-4 : tie.Need-pick-requires-4 Inv-loop μ-loop
 pick-requires-4 c κs = search needs
 
-index-requires-2 : tie.Need-index-requires-2 Inv-loop μ-loop
-index-requires-2 c κs = search needs
+put-byte-requires-3 : tie.Need-put-byte-requires-3 Inv-loop μ-loop
+put-byte-requires-3 c κs = search needs
+
+small-requires-2 : tie.Need-small-requires-2 Inv-loop μ-loop
+small-requires-2 c κs = search needs
 
 pick-requires-5 : tie.Need-pick-requires-5 Inv-loop μ-loop
 pick-requires-5 c κs = search needs
 
-put-byte-requires-3 : tie.Need-put-byte-requires-3 Inv-loop μ-loop
-put-byte-requires-3 c κs = search needs
+index-requires-2 : tie.Need-index-requires-2 Inv-loop μ-loop
+index-requires-2 c κs = search needs
+
+put-byte-requires-4 : tie.Need-put-byte-requires-4 Inv-loop μ-loop
+put-byte-requires-4 c κs = search needs
 
 returns : tie.Need-returns Inv-loop μ-loop
 returns c = search needs
@@ -96,10 +100,11 @@ scope-of-spec =
     pick-requires-3
     put-byte-requires-2
     fault-requires-2
-    small-requires-2
     pick-requires-4
-    index-requires-2
-    pick-requires-5
     put-byte-requires-3
+    small-requires-2
+    pick-requires-5
+    index-requires-2
+    put-byte-requires-4
     returns
     returns-2)

@@ -1,3 +1,4 @@
+-- `compare::arguments::weights_of` meets its contract. Assumes nothing.
 use borrow.Author.Needs.{needs}
 use Prim.Native.Nat.{_-_}
 use Rattle.compare.proofs.arguments.weights_of.Statement.{statement}

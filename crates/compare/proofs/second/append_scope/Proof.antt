@@ -1,3 +1,4 @@
+-- `compare::second::append_scope` meets its contract. Assumes nothing.
 use borrow.Author.Needs.{needs}
 use Prim.Native.Nat.{_-_}
 use Rattle.compare.proofs.second.append_scope.Statement.{statement}

@@ -1,3 +1,4 @@
+-- `compare::second_filter::matches` meets its contract. Assumes nothing.
 use borrow.Author.Needs.{needs}
 use Prim.Native.Nat.{_-_}
 use Rattle.compare.proofs.second_filter.matches.Statement.{statement}
