@@ -14,10 +14,10 @@ use crate::places::LONG;
 use crate::places::SHORT;
 use crate::places::byte_at;
 use crate::places::word_at;
+use numbers::number_of;
 use state::Answer;
 use state::DecisionAnswer;
 use state::Left;
-use state::Refusal;
 use state::Solved;
 use state::Sort;
 use state::State;
@@ -36,24 +36,6 @@ pub(crate) struct Written {
 pub(crate) struct After {
     pub number: u8,
     pub state: State,
-}
-
-fn number_of(refusal: Refusal) -> u8 {
-    match refusal {
-        Refusal::NoSuchVariable => 1,
-        Refusal::VariableTwice => 2,
-        Refusal::WrongLength => 3,
-        Refusal::OutOfRange => 4,
-        Refusal::TupleTwice => 5,
-        Refusal::Full => 6,
-        Refusal::Malformed => 7,
-        Refusal::NotLeft => 8,
-        Refusal::TooManyDecisions => 9,
-        Refusal::TooDeep => 10,
-        Refusal::ShortBuffer => 11,
-        Refusal::NoObjective => 12,
-        Refusal::Decided => 13,
-    }
 }
 
 fn answered(answer: Answer) -> u8 {
