@@ -1,8 +1,9 @@
 #!/usr/bin/env python3
-"""Times the program `rota` against its unverified twin in Rust.
+"""Times the program `rota` against its unverified twin in Rust, and beside other solvers where they are installed.
 
-    rt check rota                        builds target/bin/rota
-    python3 bench/run.py [FOLDER]        a table for every NAME.wcsp of the folder that has a NAME.wcsp.expected
+    rt check rota replay                 builds target/bin/rota and target/bin/replay
+    python3 bench/run.py [FOLDER]        a table for every NAME.wcsp of the folder that has a NAME.wcsp.expected,
+                                         and one for every NAME.script, which only `replay` reads
 
 Both programs run as a whole: start, reading, solving, writing. What counts is the processor's time (on an idle machine
 that is the time that passes, since both have one thread), the best of several runs.
@@ -20,13 +21,15 @@ import subprocess
 import sys
 import tempfile
 
+import peers
+
 REPOSITORY = pathlib.Path(__file__).resolve().parent.parent
 ROTA = REPOSITORY / "target" / "bin" / "rota"
+REPLAY = REPOSITORY / "target" / "bin" / "replay"
 TWIN = REPOSITORY / "target" / "bench" / "twin"
 INSTANCES = REPOSITORY.parent / "shared" / "instances"
 
 BUILD = ["rustc", "--edition=2024", "-Copt-level=3", "-Ccodegen-units=1", "-Ctarget-cpu=x86-64", "--crate-name=twin"]
-PEERS = ["toulbar2", "gringo", "clasp", "minizinc"]
 COUNTED = ["queens_8", "alloc_16x16x3_0"]
 
 LEAST_RUNS = 5
@@ -157,11 +160,11 @@ def summary(times, start):
         yield f"Over the instances where the twin takes more than twice its start ({len(longer)} of {len(times)}), the geometric mean is {geometric_mean(longer):.2f}."
 
 
-def peers_line():
-    found = [peer for peer in PEERS if shutil.which(peer)]
-    if found:
-        return f"Installed, but not timed by this script: {', '.join(found)}."
-    return f"Not installed, so not compared: {', '.join(PEERS)}."
+def script_table(folder):
+    yield row(["Script", "replay, ms"])
+    yield "|---|---:|"
+    for file in sorted(folder.glob("*.script")):
+        yield row([f"`{file.stem}`", f"{best_times([REPLAY], file)[0]:.2f}"])
 
 
 def machine():
@@ -170,7 +173,7 @@ def machine():
     return f"{models[0] if models else 'unknown processor'}, {os.cpu_count()} cores"
 
 
-def document(times, start, counts):
+def document(times, start, counts, scripts, others):
     yield "# Performance"
     yield ""
     yield "The program `rota` beside an unverified twin in Rust (`bench/twin`, safe code, release build) that does the same search, filtering and thresholds and writes the same bytes. The twin is written for speed: its loops over a tuple are compiled once for each arity. Both outputs were compared with the expected ones first."
@@ -189,25 +192,35 @@ def document(times, start, counts):
         yield ""
         yield from count_table(counts)
     yield ""
+    yield "## Scripts"
+    yield ""
+    yield "Networks with linear rules, which wcsp files can't say."
+    yield ""
+    yield from scripts
+    yield ""
     yield "## Other solvers"
     yield ""
-    yield peers_line()
+    yield "One run each, whole programs, processor time. clasp with gringo and minizinc with gecode were asked for the leximin-best values alone, without document 01's rule for ties, and gave the same vectors; minizinc runs once for each objective. toulbar2 was asked for any solution, a smaller question."
+    yield ""
+    yield from others
     yield ""
     yield "## Measuring again"
     yield ""
-    yield "    rt check rota"
+    yield "    rt check rota replay"
+    yield "    bench/install-peers.sh"
     yield "    python3 bench/run.py FOLDER --instructions --write docs/PERFORMANCE.md"
     yield ""
     yield "`FOLDER` holds the instances, each `NAME.wcsp` with its `NAME.wcsp.expected`."
 
 
-def report(times, start, counts):
+def report(times, start, counts, scripts, others):
     yield from time_table(times)
     yield from summary(times, start)
     if counts:
         yield "Instructions from main on:"
         yield from count_table(counts)
-    yield peers_line()
+    yield from scripts
+    yield from others
 
 
 def main():
@@ -216,17 +229,19 @@ def main():
     options.add_argument("--instructions", action="store_true", help="count instructions of two instances too")
     options.add_argument("--write", type=pathlib.Path, metavar="FILE", help="write a document, such as docs/PERFORMANCE.md")
     chosen = options.parse_args()
-    if not ROTA.exists():
-        sys.exit("target/bin/rota is not there: build it with `rt check rota`")
+    if not ROTA.exists() or not REPLAY.exists():
+        sys.exit("the programs are not there: build them with `rt check rota replay`")
     files = instances_in(chosen.folder)
     build_twin()
     times = measure(files)
     with tempfile.TemporaryDirectory() as folder:
         start = start_times(pathlib.Path(folder))
         counts = count_instructions(files, pathlib.Path(folder)) if chosen.instructions else []
-    print("\n".join(report(times, start, counts)))
+    scripts = list(script_table(chosen.folder))
+    others = list(peers.table(times, files))
+    print("\n".join(report(times, start, counts, scripts, others)))
     if chosen.write:
-        chosen.write.write_text("\n".join(document(times, start, counts)) + "\n")
+        chosen.write.write_text("\n".join(document(times, start, counts, scripts, others)) + "\n")
 
 
 if __name__ == "__main__":
