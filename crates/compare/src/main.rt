@@ -223,10 +223,11 @@ fn turn(run: Run, network: u64, i: usize) -> Run
     }
 }
 
-fn main() {
+// What is counted over the first so many networks.
+fn compare_networks(many: u64) -> [u64; KINDS] {
     let mut counts = [0u64; KINDS];
     let mut network: u64 = 0;
-    while network < NETWORKS {
+    while network < many {
         let after = compare_network(network, counts);
         counts = after;
         count(&mut counts, counts::NETWORKS);
@@ -235,5 +236,10 @@ fn main() {
         }
         network += 1;
     }
+    counts
+}
+
+fn main() {
+    let counts = compare_networks(NETWORKS);
     counts::write_counts(&counts);
 }

@@ -1,14 +1,14 @@
--- `compare::main` meets its contract. Assumes nothing.
+-- `compare::compare_networks` meets its contract. Assumes nothing.
 use borrow.Author.Needs.{needs}
 use Prim.Native.Nat.{_-_}
-use Rattle.compare.proofs.main.Statement.{statement}
-use Rattle.compare.proofs.main.Tie as tie
+use Rattle.compare.proofs.compare_networks.Statement.{statement}
+use Rattle.compare.proofs.compare_networks.Tie as tie
 
 abbrev Inv-loop : tie.InvT-loop
-Inv-loop counts₀ network₀ counts network = Unit
+Inv-loop many counts₀ network₀ counts network = Unit
 
 abbrev μ-loop : tie.MeasureT-loop
-μ-loop counts₀ network₀ counts network = 4000 - network
+μ-loop many counts₀ network₀ counts network = many - network
 
 loop-holds : tie.Need-loop-holds Inv-loop μ-loop
 loop-holds c = tt
@@ -34,14 +34,11 @@ loop-less c = search needs
 loop-again : tie.Need-loop-again Inv-loop μ-loop
 loop-again c = tt
 
-write-counts-requires : tie.Need-write-counts-requires Inv-loop μ-loop
-write-counts-requires c κs = search needs
-
 returns : tie.Need-returns Inv-loop μ-loop
 returns c = search needs
 
-pub main-spec : {M : Type 1} → statement M
-main-spec =
+pub compare-networks-spec : {M : Type 1} → statement M
+compare-networks-spec =
     tie.close
     (tie.spec
     Inv-loop
@@ -54,5 +51,4 @@ main-spec =
     add-network
     loop-less
     loop-again
-    write-counts-requires
     returns)
