@@ -19,10 +19,6 @@ pub mod Slack
 pub mod Dispatch
 pub mod Sweeping
 pub mod Noting
-pub mod Searching
-pub mod Limits
-pub mod Tuples
-pub mod Keys
 pub mod Shifts
 pub mod Padding
 pub mod Rooms

@@ -14,7 +14,7 @@ use Rattle.meaning.specs.Limits.{ruleLimit, coefficientLimit}
 use Rattle.meaning.specs.Proper.{Around}
 use Rattle.state.specs.Layout.{shift}
 use Rattle.state.specs.Writing.{Fitting, Put, InRange, PutHead}
-use Rattle.state.proofs.Limits.{as-read}
+use Rattle.arguments.proofs.Limits.{as-read}
 
 module _ (before : List ℕ) (at : ℕ) (numbers : List ℕ) (fitting : Fitting before at (length numbers)) (room : List ℕ) (j : ℕ) (so-far : room ≡ paste before at numbers j) where
   pub put-next : (v d : ℕ) → j < length numbers → v ≡ getD numbers j d → set room (at + j) v ≡ paste before at numbers (j + 1)

@@ -20,7 +20,7 @@ use Rattle.meaning.specs.Calls as Calls
 use Rattle.meaning.specs.Calls.{Call, addTable, addLinear, some, same, repeats, beyond, tuplesOf, ruleOf, unknown, overfull, tests, refusal, held}
 use Rattle.meaning.proofs.Proper.{number-above, rows-count, some-no, beyond-no, outside-no}
 use Rattle.meaning.proofs.Tests.{or-no}
-use Rattle.state.specs.Checks.{tuplesIn}
+use Rattle.arguments.specs.Checks.{tuplesIn}
 use Rattle.state.specs.Additions.{Counted, TableFits, TableTested, LinearFits, LinearTested}
 use Rattle.state.proofs.Answering.{Finds, finds}
 

@@ -7,7 +7,6 @@ pub mod Spreading
 pub mod Search
 pub mod Thresholds
 pub mod Choosing
-pub mod Checks
 pub mod Writing
 pub mod Holds
 pub mod Promises

@@ -18,12 +18,6 @@ use crate::Sort;
 use crate::State;
 use crate::blocks::lists_after;
 use crate::blocks::put_lists;
-use crate::checks::any_beyond;
-use crate::checks::any_large;
-use crate::checks::any_twice;
-use crate::checks::any_unknown;
-use crate::checks::beyond_bound;
-use crate::checks::tuple_twice;
 use crate::refused;
 use crate::spreading::rules_on;
 use crate::spreading::spread;
@@ -31,6 +25,12 @@ use crate::writing::put_bytes;
 use crate::writing::put_head;
 use crate::writing::put_shifted;
 use crate::writing::shifted_bound;
+use arguments::any_beyond;
+use arguments::any_large;
+use arguments::any_twice;
+use arguments::any_unknown;
+use arguments::beyond_bound;
+use arguments::tuple_twice;
 
 // One table more: its variables, and its tuples' values one after the other.
 pub fn add_table(s: State, sort: Sort, scope: &[u8], cells: &[u8]) -> AfterCall

@@ -8,7 +8,6 @@ ghost use Rattle.state.specs.Promises.{Answers, numberOf};
 mod adding;
 mod allowed;
 mod blocks;
-mod checks;
 mod deciding;
 mod forbidden;
 mod linear;

@@ -1,6 +1,6 @@
 // Writing a rule's head and numbers into a state. Its room is lent as a whole.
-use crate::checks::BOUND;
-use crate::checks::COEFFICIENT;
+use arguments::BOUND;
+use arguments::COEFFICIENT;
 ghost use Prim.Native.Nat.{_*_, _≤_, _<_};
 ghost use mathlib.Core.Path.{_≡_};
 ghost use mathlib.Core.List.{map};

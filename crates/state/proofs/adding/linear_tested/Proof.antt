@@ -16,10 +16,10 @@ use Rattle.state.proofs.adding.linear_tested.Tie as tie
 use Rattle.state.proofs.adding.linear_tested.Reads as reads
 use Rattle.state.proofs.adding.linear_tested.Lts as lts
 use Rattle.state.proofs.adding.is_full.Reads as is-full-reads
-use Rattle.state.proofs.checks.any_beyond.Reads as any-beyond-reads
-use Rattle.state.proofs.checks.any_twice.Reads as any-twice-reads
-use Rattle.state.proofs.checks.any_unknown.Reads as any-unknown-reads
-use Rattle.state.proofs.checks.beyond_bound.Reads as beyond-bound-reads
+use Rattle.arguments.proofs.any_beyond.Reads as any-beyond-reads
+use Rattle.arguments.proofs.any_twice.Reads as any-twice-reads
+use Rattle.arguments.proofs.any_unknown.Reads as any-unknown-reads
+use Rattle.arguments.proofs.beyond_bound.Reads as beyond-bound-reads
 
 returns : tie.Need-returns
 returns c =

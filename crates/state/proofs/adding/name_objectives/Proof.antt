@@ -12,7 +12,7 @@ use Rattle.state.proofs.adding.name_objectives.Tie as tie
 use Rattle.state.proofs.adding.name_objectives.Reads as reads
 use Rattle.state.proofs.adding.name_objectives.Lts as lts
 use Rattle.state.proofs.adding.sixteen.Reads as sixteen-reads
-use Rattle.state.proofs.checks.any_unknown.Reads as any-unknown-reads
+use Rattle.arguments.proofs.any_unknown.Reads as any-unknown-reads
 use Rattle.state.proofs.refused.Reads as refused-reads
 
 refused-requires : tie.Need-refused-requires

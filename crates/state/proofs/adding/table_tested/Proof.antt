@@ -15,10 +15,10 @@ use Rattle.state.proofs.adding.table_tested.Tie as tie
 use Rattle.state.proofs.adding.table_tested.Reads as reads
 use Rattle.state.proofs.adding.table_tested.Lts as lts
 use Rattle.state.proofs.adding.is_full.Reads as is-full-reads
-use Rattle.state.proofs.checks.any_large.Reads as any-large-reads
-use Rattle.state.proofs.checks.any_twice.Reads as any-twice-reads
-use Rattle.state.proofs.checks.any_unknown.Reads as any-unknown-reads
-use Rattle.state.proofs.checks.tuple_twice.Reads as tuple-twice-reads
+use Rattle.arguments.proofs.any_large.Reads as any-large-reads
+use Rattle.arguments.proofs.any_twice.Reads as any-twice-reads
+use Rattle.arguments.proofs.any_unknown.Reads as any-unknown-reads
+use Rattle.arguments.proofs.tuple_twice.Reads as tuple-twice-reads
 
 returns : tie.Need-returns
 returns c =
@@ -66,7 +66,7 @@ returns-5 c =
     (sym (c .before .before .before .before .before .any-unknown .ensures) ∙ c .before .before .before .before .if5 .left) (sym (c .before .before .before .any-twice .ensures) ∙ c .before .before .if6 .left) (sym (c .before .any-large .ensures) ∙ c .if7 .taken)
 
 tuple-twice-requires : tie.Need-tuple-twice-requires
-tuple-twice-requires c κs = (omega (arith, c .before .before .before .before .before .before .before .before .if2 .left), eqb-true _ _ (not-false _ (c .before .before .before .before .before .before .if4 .left)))
+tuple-twice-requires c κs = search needs
 
 returns-6 : tie.Need-returns-6
 returns-6 c =

@@ -7,9 +7,9 @@ use native.Mathlib.Omega.{arith}
 use borrow.Author.Needs.{needs}
 use lib.ListN.{take, drop}
 use Rattle.wcsp.proofs.Heaping.{row-inside}
-use Rattle.state.proofs.Tuples.{part-is}
+use Rattle.arguments.proofs.Tuples.{part-is}
 use Rattle.state.proofs.Cells.{row-at}
-use Rattle.state.proofs.Searching.{some-steps, found-at, passed-at, missed-at}
+use Rattle.arguments.proofs.Searching.{some-steps, found-at, passed-at, missed-at}
 use Rattle.meaning.proofs.Proper.{rows-count}
 use Rattle.meaning.specs.Calls.{some, same, rows}
 use Rattle.wcsp.proofs.listing.listed.Statement.{statement}

@@ -4,7 +4,7 @@ use mathlib.Core.Path.{_≡_, sym, ap, _∙_}
 use Prim.Native.Nat.{_*_}
 use native.Mathlib.Omega.{arith}
 use Rattle.wcsp.proofs.Keying.{marked-before, marked-now, not-listed}
-use Rattle.state.proofs.Tuples.{part-is}
+use Rattle.arguments.proofs.Tuples.{part-is}
 use Rattle.tuples.specs.Keys.{keyFrom}
 use Rattle.wcsp.proofs.listing.listed_by_key.Statement.{statement}
 use Rattle.wcsp.proofs.listing.listed_by_key.Tie as tie

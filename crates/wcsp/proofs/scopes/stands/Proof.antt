@@ -4,7 +4,7 @@ use lib.ListN.{length}
 use lib.Seq.{getD-take, length-take-le}
 use borrow.Author.Tests.{eq-eqb, ne-eqb}
 use native.Mathlib.Omega.{arith}
-use Rattle.state.proofs.Searching.{some-steps, found-at, passed-at, missed-at}
+use Rattle.arguments.proofs.Searching.{some-steps, found-at, passed-at, missed-at}
 use mathlib.Core.Path.{_≡_, refl, _∙_}
 use Prim.Native.Nat.{_-_, _≤_}
 use lib.Dec.{eqb}

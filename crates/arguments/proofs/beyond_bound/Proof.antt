@@ -1,8 +1,8 @@
--- `state::checks::beyond_bound` meets its contract. Assumes nothing.
+-- `arguments::beyond_bound` meets its contract. Assumes nothing.
 use borrow.Author.Needs.{needs}
-use Rattle.state.proofs.Limits.{beyond-low, beyond-high}
-use Rattle.state.proofs.checks.beyond_bound.Statement.{statement}
-use Rattle.state.proofs.checks.beyond_bound.Tie as tie
+use Rattle.arguments.proofs.Limits.{beyond-low, beyond-high}
+use Rattle.arguments.proofs.beyond_bound.Statement.{statement}
+use Rattle.arguments.proofs.beyond_bound.Tie as tie
 
 sub-if1 : tie.Need-sub-if1
 sub-if1 c = search needs

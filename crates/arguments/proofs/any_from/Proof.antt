@@ -1,4 +1,4 @@
--- `state::checks::any_from` meets its contract. The loop: what the rest says is what the whole list says. Assumes nothing.
+-- `arguments::any_from` meets its contract. The loop: what the rest says is what the whole list says. Assumes nothing.
 use mathlib.Core.Path.{_≡_, refl}
 use Prim.Native.Nat.{_-_}
 use lib.ListN.{length, drop}
@@ -7,9 +7,9 @@ use native.Mathlib.Omega.{arith}
 use lib.Dec.{leb}
 use borrow.Author.Tests.{le-leb, lt-leb}
 use Rattle.meaning.specs.Calls.{some}
-use Rattle.state.proofs.Searching.{some-steps, found-at, passed-at, missed-at}
-use Rattle.state.proofs.checks.any_from.Statement.{statement}
-use Rattle.state.proofs.checks.any_from.Tie as tie
+use Rattle.arguments.proofs.Searching.{some-steps, found-at, passed-at, missed-at}
+use Rattle.arguments.proofs.any_from.Statement.{statement}
+use Rattle.arguments.proofs.any_from.Tie as tie
 
 abbrev Inv-loop : tie.InvT-loop
 Inv-loop numbers limit i₀ i = some (leb limit) (drop i numbers) ≡ some (leb limit) numbers

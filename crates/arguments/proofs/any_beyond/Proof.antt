@@ -1,4 +1,4 @@
--- `state::checks::any_beyond` meets its contract. The loop: what the rest says is what the whole list says. Assumes nothing.
+-- `arguments::any_beyond` meets its contract. The loop: what the rest says is what the whole list says. Assumes nothing.
 use mathlib.Core.Path.{_≡_, refl, sym, ap, _∙_}
 use Prim.Native.Nat.{_-_}
 use borrow.Author.Needs.{needs}
@@ -6,10 +6,10 @@ use lib.IntN.{pos}
 use lib.ListN.{length, getD, drop}
 use Rattle.meaning.specs.Limits.{coefficientLimit}
 use Rattle.meaning.specs.Calls.{some, beyond}
-use Rattle.state.proofs.Limits.{as-read}
-use Rattle.state.proofs.Searching.{some-steps, found-at, passed-at, missed-at}
-use Rattle.state.proofs.checks.any_beyond.Statement.{statement}
-use Rattle.state.proofs.checks.any_beyond.Tie as tie
+use Rattle.arguments.proofs.Limits.{as-read}
+use Rattle.arguments.proofs.Searching.{some-steps, found-at, passed-at, missed-at}
+use Rattle.arguments.proofs.any_beyond.Statement.{statement}
+use Rattle.arguments.proofs.any_beyond.Tie as tie
 
 abbrev Inv-loop : tie.InvT-loop
 Inv-loop coefficients i₀ i = some (beyond coefficientLimit) (drop i coefficients) ≡ some (beyond coefficientLimit) coefficients

@@ -1,13 +1,13 @@
--- `state::checks::any_twice` meets its contract. The loop: what the rest says is what the whole list says. Assumes nothing.
+-- `arguments::any_twice` meets its contract. The loop: what the rest says is what the whole list says. Assumes nothing.
 use mathlib.Core.Path.{_≡_, refl, sym, _∙_}
 use Prim.Native.Nat.{_-_}
 use borrow.Author.Needs.{needs}
 use lib.Dec.{eqb}
 use lib.ListN.{length, drop}
 use Rattle.meaning.specs.Calls.{repeats}
-use Rattle.state.proofs.Searching.{repeats-steps, found-at, passed-at, missed-at}
-use Rattle.state.proofs.checks.any_twice.Statement.{statement}
-use Rattle.state.proofs.checks.any_twice.Tie as tie
+use Rattle.arguments.proofs.Searching.{repeats-steps, found-at, passed-at, missed-at}
+use Rattle.arguments.proofs.any_twice.Statement.{statement}
+use Rattle.arguments.proofs.any_twice.Tie as tie
 
 abbrev Inv-loop : tie.InvT-loop
 Inv-loop variables i₀ i = repeats eqb (drop i variables) ≡ repeats eqb variables

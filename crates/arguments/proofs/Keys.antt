@@ -4,20 +4,20 @@ use mathlib.Core.Logic.{⊎-elim, by-cases}
 use mathlib.Core.Bool.{Bool, true, false, _||_, true≢false}
 use mathlib.Core.List.{List, [], _∷_, List·Memᴰ, List·Memᴰ·not-nil, List·Memᴰ·cases-cons}
 use Prim.Native.Nat.{ℕ, _+_, _-_, _*_, _/_, _%_, _≤_, _<_}
-use native.Mathlib.Nat.{mod-eq-of-lt, mod-eq-sub-mod, div-add-mod'}
+use native.Mathlib.Nat.{mod-lt, mod-le, mod-eq-of-lt, mod-eq-sub-mod, div-add-mod', mul-mod-left, div-zero}
 use native.Mathlib.Decide.{ℕ-discrete, decLe}
 use native.Mathlib.Numerals.{add-one}
 use native.Mathlib.Omega.{arith}
 use lib.Dec.{T, eqb, eqb→eq}
 use lib.ListN.{length, getD, set, drop, length-set, length-drop, drop-of-length-le}
 use lib.Seq.{drop-cons, drop-drop, getD-set-same, getD-set-other}
-use Rattle.meaning.specs.Calls.{some, same, repeats}
+use Rattle.meaning.specs.Calls.{some, same, repeats, rows}
 use Rattle.meaning.proofs.Tests.{and-left, and-right}
 use Rattle.tuples.specs.Keys.{keyLimit, keyFrom, Marked}
 use Rattle.tuples.proofs.Marks.{unmarked, marked-too}
-use Rattle.state.specs.Checks.{tupleAt, tuplesIn, listedAgain}
-use Rattle.state.proofs.Searching.{earlier}
-use Rattle.state.proofs.Tuples.{tuples-none, tuples-more, twice-search}
+use Rattle.arguments.specs.Checks.{tupleAt, tuplesIn, listedAgain}
+use Rattle.arguments.proofs.Searching.{earlier}
+use Rattle.arguments.proofs.Tuples.{tuples-none, tuples-more, twice-search}
 
 -- what holds once the tuples from a place on are passed: none of them stands twice, and their keys are marked
 pub record Passed (a : ℕ) (cells : List ℕ) (place : ℕ) (marked : List Bool) : Type 0 where
@@ -28,13 +28,19 @@ pub record Passed (a : ℕ) (cells : List ℕ) (place : ℕ) (marked : List Bool
   pub marks : Marked marked (tuplesIn a (drop place cells))
 
 module _ (a : ℕ) (some-cells : 0 < a) (cells : List ℕ) where
-  pub passed-none : (marked : List Bool) → length marked ≡ keyLimit → length cells % a ≡ 0 → Passed a cells (length cells) marked
+  -- where the tuples end
+  abbrev end : ℕ
+  end = length cells - length cells % a
+
+  pub passed-none : (marked : List Bool) → length marked ≡ keyLimit → Passed a cells end marked
   unfolding repeats
-  passed-none marked l h =
-      let none : tuplesIn a (drop (length cells) cells) ≡ [] = tuples-none a some-cells (drop (length cells) cells) (omega (arith, length-drop (length cells) cells)) in
+  passed-none marked l =
+      let some-left = mod-lt (length cells) some-cells in
+      let steps : length cells / a * a ≡ end = omega (arith, div-add-mod' (length cells) a) in
+      let none : tuplesIn a (drop end cells) ≡ [] = tuples-none a some-cells (drop end cells) (omega (arith, length-drop end cells, some-left, mod-le (length cells) a)) in
       record {
         inside = omega arith;
-        whole = h;
+        whole = ap (λ (k : ℕ). k % a) (sym steps) ∙ mul-mod-left (length cells / a) a;
         once = ap (repeats same) none;
         long = l;
         marks = λ u m. absurd (List·Memᴰ·not-nil (rw none at m));
@@ -96,3 +102,7 @@ module _ (a : ℕ) (some-cells : 0 < a) (cells : List ℕ) where
         let here = repeats-are ∙ ap (λ (b : Bool). b || repeats same others) f in
         sym (earlier (twice-search a some-cells) ((place - a) / a) cells (omega (arith, p .inside))
         (ap (λ (k : ℕ). repeats same (tuplesIn a (drop k cells))) steps ∙ here))
+
+pub no-tuples : (cells : List ℕ) {a : ℕ} → a ≡ 0 → false ≡ repeats same (tuplesIn a cells)
+unfolding repeats rows
+no-tuples cells e = sym (ap (λ (a : ℕ). repeats same (tuplesIn a cells)) e ∙ ap (λ (n : ℕ). repeats same (rows n 0 cells)) (div-zero (length cells)))

@@ -1,4 +1,4 @@
--- `state::checks::named_again` meets its contract. The loop: what the rest says is what the whole list says. Assumes nothing.
+-- `arguments::named_again` meets its contract. The loop: what the rest says is what the whole list says. Assumes nothing.
 use mathlib.Core.Path.{_≡_, refl}
 use Prim.Native.Nat.{_+_, _-_}
 use borrow.Author.Needs.{needs}
@@ -6,9 +6,9 @@ use borrow.Author.Tests.{eq-eqb, ne-eqb}
 use lib.Dec.{eqb}
 use lib.ListN.{length, getD, drop}
 use Rattle.meaning.specs.Calls.{some}
-use Rattle.state.proofs.Searching.{some-steps, found-at, passed-at, missed-at}
-use Rattle.state.proofs.checks.named_again.Statement.{statement}
-use Rattle.state.proofs.checks.named_again.Tie as tie
+use Rattle.arguments.proofs.Searching.{some-steps, found-at, passed-at, missed-at}
+use Rattle.arguments.proofs.named_again.Statement.{statement}
+use Rattle.arguments.proofs.named_again.Tie as tie
 
 abbrev Inv-loop : tie.InvT-loop
 Inv-loop variables place i₀ i = some (eqb (getD variables place 0)) (drop i variables) ≡ some (eqb (getD variables place 0)) (drop (place + 1) variables)

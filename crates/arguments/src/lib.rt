@@ -5,7 +5,7 @@ ghost use lib.Dec.{leb, eqb};
 ghost use lib.ListN.{length, getD, drop};
 ghost use Rattle.meaning.specs.Limits.{valueLimit, coefficientLimit, boundLimit};
 ghost use Rattle.meaning.specs.Calls.{some, same, repeats, beyond};
-ghost use Rattle.state.specs.Checks.{tuplesIn, listedAgain};
+ghost use Rattle.arguments.specs.Checks.{tuplesIn, listedAgain};
 use tuples::KEYS;
 use tuples::are_same;
 use tuples::key_of;
@@ -14,9 +14,9 @@ use tuples::key_of;
 const VALUES: usize = 64;
 
 // A coefficient and a bound lie between minus this and this.
-pub(crate) const COEFFICIENT: i32 = 1000;
+pub const COEFFICIENT: i32 = 1000;
 
-pub(crate) const BOUND: i32 = 5_000_000;
+pub const BOUND: i32 = 5_000_000;
 
 // Whether one of the numbers isn't below the limit.
 fn any_from(numbers: &[u8], limit: usize) -> bool
@@ -33,14 +33,14 @@ fn any_from(numbers: &[u8], limit: usize) -> bool
 }
 
 // Whether one of the variables isn't among the first `count`.
-pub(crate) fn any_unknown(variables: &[u8], count: usize) -> bool
+pub fn any_unknown(variables: &[u8], count: usize) -> bool
     ensures { λ r. ⌜ r ≡ some (leb count) (now (variables .entry)) ⌝ }
 {
     any_from(variables, count)
 }
 
 // Whether one of the values is out of range.
-pub(crate) fn any_large(values: &[u8]) -> bool
+pub fn any_large(values: &[u8]) -> bool
     ensures { λ r. ⌜ r ≡ some (leb valueLimit) (now (values .entry)) ⌝ }
 {
     any_from(values, VALUES)
@@ -62,7 +62,7 @@ fn named_again(variables: &[u8], place: usize) -> bool
 }
 
 // Whether a variable stands twice.
-pub(crate) fn any_twice(variables: &[u8]) -> bool
+pub fn any_twice(variables: &[u8]) -> bool
     ensures { λ r. ⌜ r ≡ repeats eqb (now (variables .entry)) ⌝ }
 {
     let mut i = 0;
@@ -90,14 +90,16 @@ fn listed_again(cells: &[u8], place: usize, arity: usize) -> bool
     false
 }
 
-// Whether a tuple stands twice. It goes from the last tuple to the first, with a mark at the key of each that it passed:
+// Whether a tuple stands twice, where so many cells make one. It goes from the last tuple to the first, with a mark at the key of each that it passed:
 // only a tuple whose key is marked can stand again.
-pub(crate) fn tuple_twice(cells: &[u8], arity: usize) -> bool
-    requires { ⌜ (0 < arity) × (length (now cells) % arity ≡ 0) ⌝ }
+pub fn tuple_twice(cells: &[u8], arity: usize) -> bool
     ensures { λ r. ⌜ r ≡ repeats same (tuplesIn arity (now (cells .entry))) ⌝ }
 {
+    if arity == 0 {
+        return false;
+    }
     let mut marked = [false; KEYS];
-    let mut place = cells.len();
+    let mut place = cells.len() - cells.len() % arity;
     while 0 < place {
         place -= arity;
         let key = key_of(&cells[place..place + arity]);
@@ -110,7 +112,7 @@ pub(crate) fn tuple_twice(cells: &[u8], arity: usize) -> bool
 }
 
 // Whether a bound is out of range.
-pub(crate) fn beyond_bound(bound: i32) -> bool
+pub fn beyond_bound(bound: i32) -> bool
     ensures { λ r. ⌜ r ≡ beyond boundLimit bound ⌝ }
 {
     bound < -BOUND || BOUND < bound
@@ -124,7 +126,7 @@ fn beyond_coefficient(coefficient: i32) -> bool
 }
 
 // Whether one of the coefficients is out of range.
-pub(crate) fn any_beyond(coefficients: &[i32]) -> bool
+pub fn any_beyond(coefficients: &[i32]) -> bool
     ensures { λ r. ⌜ r ≡ some (beyond coefficientLimit) (now (coefficients .entry)) ⌝ }
 {
     let mut i = 0;

@@ -11,8 +11,8 @@ use lib.Dec.{eqb}
 use lib.ListN.{length, getD, take, drop, length-drop, drop-of-length-le}
 use lib.Seq.{drop-cons, getD-take, getD-drop, length-take-le}
 use Rattle.meaning.specs.Calls.{some, same, repeats, rows}
-use Rattle.state.specs.Checks.{tupleAt, tuplesIn}
-use Rattle.state.proofs.Searching.{Search}
+use Rattle.arguments.specs.Checks.{tupleAt, tuplesIn}
+use Rattle.arguments.proofs.Searching.{Search}
 
 module _ (n : ℕ) (cells : List ℕ) where
   pub cell : (a j : ℕ) → j < n → getD (tupleAt n cells a) j 0 ≡ getD cells (a + j) 0

@@ -1,14 +1,14 @@
--- `state::checks::listed_again` meets its contract. The loop: what the rest says is what the whole list says. Assumes nothing.
+-- `arguments::listed_again` meets its contract. The loop: what the rest says is what the whole list says. Assumes nothing.
 use mathlib.Core.Path.{_≡_, refl, sym, ap₂, _∙_}
 use Prim.Native.Nat.{_+_, _-_, _≤_}
 use borrow.Author.Needs.{needs}
 use lib.ListN.{length, drop}
-use Rattle.state.proofs.Tuples.{part-is, again-search}
-use Rattle.state.proofs.Searching.{found, passed, missed}
-use Rattle.state.specs.Checks.{tupleAt, tuplesIn}
+use Rattle.arguments.proofs.Tuples.{part-is, again-search}
+use Rattle.arguments.proofs.Searching.{found, passed, missed}
+use Rattle.arguments.specs.Checks.{tupleAt, tuplesIn}
 use Rattle.meaning.specs.Calls.{some, same}
-use Rattle.state.proofs.checks.listed_again.Statement.{statement}
-use Rattle.state.proofs.checks.listed_again.Tie as tie
+use Rattle.arguments.proofs.listed_again.Statement.{statement}
+use Rattle.arguments.proofs.listed_again.Tie as tie
 
 abbrev Inv-loop : tie.InvT-loop
 Inv-loop cells place arity other₀ other = (other ≤ length cells)

@@ -1,0 +1,2 @@
+-- The definitions that the contracts of `arguments` cite besides those of `meaning`.
+pub mod Checks
