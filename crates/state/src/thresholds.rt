@@ -1,6 +1,6 @@
 // The thresholds at a node of the search: place i asks that all but i of the objectives reach floors[i].
 ghost use mathlib.Core.Path.{_≡_};
-ghost use Prim.Native.Nat.{_≤_};
+ghost use Prim.Native.Nat.{_-_, _≤_, _<_};
 ghost use lib.ListN.{length, take};
 ghost use Rattle.meaning.specs.Limits.{objectiveLimit};
 ghost use Rattle.meaning.proofs.Counting.{reach};
@@ -25,13 +25,14 @@ pub(crate) fn raise(objective: &[u8], count: usize, floors: &[u8], lists: &mut [
         let floor = floors[i];
         if 0 < floor {
             let enough = reaching(&tops, count, floor);
-            if enough < count - i {
+            let needed = asked(count, i);
+            if enough < needed {
                 return Verdict {
                     alive: false,
                     changed,
                 };
             }
-            if enough == count - i {
+            if enough == needed {
                 changed |= lift(objective, count, &tops, floor, lists);
             }
         }
@@ -41,6 +42,14 @@ pub(crate) fn raise(objective: &[u8], count: usize, floors: &[u8], lists: &mut [
         alive: true,
         changed,
     }
+}
+
+// How many objectives are to reach the threshold at place i.
+fn asked(count: usize, i: usize) -> usize
+    requires { ⌜ i < count ⌝ }
+    ensures { λ r. ⌜ r ≡ count - i ⌝ }
+{
+    count - i
 }
 
 // The greatest value left to each objective.

@@ -33,28 +33,25 @@ reaching-requires c κs =
     let long = c .before .before .before .before .loop .inv .1 .topped .long in
     omega (arith, start .pre .0 .most)
 
-sub-if2 : tie.Need-sub-if2 Inv-loop μ-loop
-sub-if2 c = search needs
+asked-requires : tie.Need-asked-requires Inv-loop μ-loop
+asked-requires c κs = search needs
 
 same-length : tie.Need-same-length Inv-loop μ-loop
-same-length c = c .before .before .before .before .before .before .loop .inv .1 .long
+same-length c = c .before .before .before .before .before .before .before .loop .inv .1 .long
 
 returns : tie.Need-returns Inv-loop μ-loop
 returns c =
-    let start = c .before .before .before .before .before .before .before .before .before .before .before .before in
-    let at = c .before .before .before .before .before .before .loop in
-    raising-dead (start .pre .0) (start .pre .2) (c .before .before .before .before .before .loop-test .taken) (at .inv .1) (omega (arith, c .before .reaching .ensures, c .if2 .taken))
-
-sub-if3 : tie.Need-sub-if3 Inv-loop μ-loop
-sub-if3 c = search needs
+    let start = c .before .before .before .before .before .before .before .before .before .before .before .before .before in
+    let at = c .before .before .before .before .before .before .before .loop in
+    raising-dead (start .pre .0) (start .pre .2) (c .before .before .before .before .before .before .loop-test .taken) (at .inv .1) (omega (arith, c .before .before .reaching .ensures, c .before .asked .ensures, c .if2 .taken))
 
 slice-aggregate-lift : tie.Need-slice-aggregate-lift Inv-loop μ-loop
 slice-aggregate-lift c = search needs
 
 lift-requires : tie.Need-lift-requires Inv-loop μ-loop
 lift-requires c κs =
-    let start = c .before .before .before .before .before .before .before .before .before .before .before .before .before .before .before in
-    let at = c .before .before .before .before .before .before .before .before .before .loop in
+    let start = c .before .before .before .before .before .before .before .before .before .before .before .before .before .before .before .before in
+    let at = c .before .before .before .before .before .before .before .before .before .before .loop in
     (raising-aims (start .pre .0) (at .inv .1), at .inv .1 .topped .long)
 
 add-i : tie.Need-add-i Inv-loop μ-loop
@@ -70,9 +67,9 @@ loop-again c =
     let inside = c .before .before .loop-test .taken in (
       search needs,
       ⊎-elim
-          (λ w. rw (w .10, w .11) (raising-lift (start .pre .0) (start .pre .2) inside (at .inv .1) (omega (arith, w .2 .ensures, w .4 .taken)) (w .7 .ensures)))
+          (λ w. rw (w .11, w .12) (raising-lift (start .pre .0) (start .pre .2) inside (at .inv .1) (omega (arith, w .2 .ensures, w .3 .ensures, w .5 .taken)) (w .8 .ensures)))
           (⊎-elim
-          (λ w. rw (w .5, w .6) (raising-on (start .pre .0) (start .pre .2) inside (at .inv .1) (omega (arith, w .2 .ensures, w .3 .left))))
+          (λ w. rw (w .6, w .7) (raising-on (start .pre .0) (start .pre .2) inside (at .inv .1) (omega (arith, w .2 .ensures, w .3 .ensures, w .4 .left))))
           (λ w. rw (w .1, w .2) (raising-free (start .pre .0) (start .pre .2) inside (at .inv .1) (omega (arith, w .0 .left)))))
           (c .if1 .came),
     )
@@ -96,10 +93,9 @@ raise-spec =
     shared-slice-read-floor
     slice-aggregate-reaching
     reaching-requires
-    sub-if2
+    asked-requires
     same-length
     returns
-    sub-if3
     slice-aggregate-lift
     lift-requires
     add-i
