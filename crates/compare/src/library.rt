@@ -14,11 +14,11 @@ use crate::places::LONG;
 use crate::places::SHORT;
 use crate::places::byte_at;
 use crate::places::word_at;
+use decide::DecisionAnswer;
+use decide::Left;
+use leximin::Solved;
 use numbers::number_of;
 use state::Answer;
-use state::DecisionAnswer;
-use state::Left;
-use state::Solved;
 use state::Sort;
 use state::State;
 
@@ -64,7 +64,7 @@ fn solving_answered(answer: Solved) -> u8 {
 pub(crate) fn left_to(s: State, x: u8) -> Told
     requires { ⌜ Reached s ⌝ }
 {
-    let answer = state::values_left(s, x);
+    let answer = decide::values_left(s, x);
     match answer {
         Left::Values(values) => Told { number: 0, values },
         Left::Refused(r) => Told {
@@ -180,7 +180,7 @@ pub(crate) fn pinned(s: State, x: u8, v: u8) -> After
     requires { ⌜ Reached s ⌝ }
     ensures { λ r. ⌜ Reached (r .state) ⌝ }
 {
-    let after = state::pin(s, x, v);
+    let after = decide::pin(s, x, v);
     let answer = after.answer;
     let state = after.state;
     After {
@@ -193,7 +193,7 @@ pub(crate) fn banned(s: State, x: u8, v: u8) -> After
     requires { ⌜ Reached s ⌝ }
     ensures { λ r. ⌜ Reached (r .state) ⌝ }
 {
-    let after = state::ban(s, x, v);
+    let after = decide::ban(s, x, v);
     let answer = after.answer;
     let state = after.state;
     After {
@@ -206,7 +206,7 @@ pub(crate) fn taken_back(s: State, depth: usize) -> After
     requires { ⌜ Reached s ⌝ }
     ensures { λ r. ⌜ Reached (r .state) ⌝ }
 {
-    let after = state::take_back(s, depth);
+    let after = decide::take_back(s, depth);
     let answer = after.answer;
     let state = after.state;
     After {
@@ -221,7 +221,7 @@ pub(crate) fn solved(s: State, buffer: [u8; SHORT], length: usize) -> Written
 {
     let mut after = buffer;
     let count = at_most(length, SHORT);
-    let answer = state::solve(s, &mut after[..count]);
+    let answer = leximin::solve(s, &mut after[..count]);
     Written {
         number: solving_answered(answer),
         buffer: after,

@@ -1,7 +1,7 @@
 // Bans the values 0 to 32 of one variable in turn, takes back to depth 31, and bans once more. It writes a letter for each
 // ban: y accepted, n refused because 32 decisions are outstanding, ? for any other refusal.
 ghost use Rattle.state.specs.Holds.{Reached};
-use state::DecisionAnswer;
+use decide::DecisionAnswer;
 use state::Refusal;
 use state::State;
 
@@ -33,7 +33,7 @@ fn ban_each(s: State) -> Banned
     let mut letters = [10u8; 35];
     let mut v: u8 = 0;
     while v < 33 {
-        let after = state::ban(state, 0, v);
+        let after = decide::ban(state, 0, v);
         let at = v as usize;
         let answer = after.answer;
         letters[at] = letter(answer);
@@ -46,8 +46,8 @@ fn ban_each(s: State) -> Banned
 fn main() {
     let started = state::add_variable(state::new(), 0xffff_ffff_ffff_ffff);
     let banned = ban_each(started.state);
-    let back = state::take_back(banned.state, 31);
-    let again = state::ban(back.state, 0, 63);
+    let back = decide::take_back(banned.state, 31);
+    let again = decide::ban(back.state, 0, 63);
     let mut letters = banned.letters;
     let answer = again.answer;
     letters[33] = letter(answer);

@@ -1,11 +1,11 @@
 -- The parties to a call on a lent rota state, for `Lent.antt`'s law: the state, and the answer beside it. Assumes nothing.
 use Rattle.state.proofs.State as State
 use Rattle.state.proofs.State.Laws as State′
-use Rattle.state.proofs.DecisionAnswer as DecisionAnswer
-use Rattle.state.proofs.DecisionAnswer.Laws as DecisionAnswer′
+use Rattle.decide.proofs.DecisionAnswer as DecisionAnswer
+use Rattle.decide.proofs.DecisionAnswer.Laws as DecisionAnswer′
 use Rattle.state.proofs.Answer as Answer
 use Rattle.state.proofs.Answer.Laws as Answer′
-use Rattle.state.proofs.AfterDecision as AfterDecision
+use Rattle.decide.proofs.AfterDecision as AfterDecision
 use Rattle.state.proofs.AfterCall as AfterCall
 use Rattle.desk.proofs.Lent.{Parties}
 

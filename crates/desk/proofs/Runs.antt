@@ -8,9 +8,11 @@ use Rattle.meaning.specs.Calls.{Call, pin, ban, takeBack}
 use Rattle.meaning.specs.Histories.{Leaves}
 use Rattle.state.specs.declared.State.{State}
 use Rattle.state.specs.declared.Answer.{Answer}
-use Rattle.state.specs.declared.DecisionAnswer.{DecisionAnswer}
-use Rattle.state.specs.Holds.{Holds, Reached, upTo, block}
-use Rattle.state.specs.Promises.{Answers, numberOf, decisionNumber}
+use Rattle.decide.specs.declared.DecisionAnswer.{DecisionAnswer}
+use Rattle.blocks.specs.Blocks.{block}
+use Rattle.state.specs.Holds.{Holds, Reached, upTo}
+use Rattle.state.specs.Promises.{Answers, numberOf}
+use Rattle.decide.specs.Decisions.{decisionNumber}
 use Rattle.state.specs.Runs.{Run, start, step}
 use Rattle.state.proofs.Runs.{run-reached, run-stands, run-largest, run-depths}
 use Rattle.desk.specs.DeskRuns.{DeskRun, new, by-value, lent-pin, lent-ban, lent-take-back}

@@ -5,10 +5,12 @@ use Prim.Native.Nat.{ℕ}
 use Rattle.meaning.specs.Calls.{pin, ban, takeBack}
 use Rattle.state.specs.declared.State.{State}
 use Rattle.state.specs.declared.Answer.{Answer}
-use Rattle.state.specs.declared.DecisionAnswer.{DecisionAnswer}
+use Rattle.decide.specs.declared.DecisionAnswer.{DecisionAnswer}
 use Rattle.state.specs.Holds.{Reached}
-use Rattle.state.specs.Promises.{Answers, numberOf, decisionNumber}
-use Rattle.state.proofs.Unique.{answers-unique, decisions-unique}
+use Rattle.state.specs.Promises.{Answers, numberOf}
+use Rattle.decide.specs.Decisions.{decisionNumber}
+use Rattle.state.proofs.Unique.{answers-unique}
+use Rattle.decide.proofs.Unique.{decisions-unique}
 
 module _ {s : State} (reached : Reached s) where
   pub pin-unique : (x v : ℕ) (a b : DecisionAnswer) {t u : State} → Answers s (pin x v) (decisionNumber a) t → Answers s (pin x v) (decisionNumber b) u → (a ≡ b) × (t ≡ u)

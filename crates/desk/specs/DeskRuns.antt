@@ -5,9 +5,10 @@ use Rattle.meaning.specs.Standing.{nothing}
 use Rattle.meaning.specs.Calls.{Call, pin, ban, takeBack}
 use Rattle.state.specs.declared.State.{State}
 use Rattle.state.specs.declared.Answer.{Answer}
-use Rattle.state.specs.declared.DecisionAnswer.{DecisionAnswer}
+use Rattle.decide.specs.declared.DecisionAnswer.{DecisionAnswer}
 use Rattle.state.specs.Holds.{Holds}
-use Rattle.state.specs.Promises.{Answers, numberOf, decisionNumber}
+use Rattle.state.specs.Promises.{Answers, numberOf}
+use Rattle.decide.specs.Decisions.{decisionNumber}
 
 -- the calls, the latest first, and the state that they leave; of a call on the state lent, s is the state at entry and t at exit
 pub data DeskRun : List Call → State → Type 0 where

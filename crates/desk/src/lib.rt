@@ -1,9 +1,10 @@
 // Pins, bans and take-backs on a rota state that stays with the desk program, which lends it for each call.
 ghost use Rattle.meaning.specs.Calls.{pin, ban, takeBack};
 ghost use Rattle.state.specs.Holds.{Reached};
-ghost use Rattle.state.specs.Promises.{Answers, numberOf, decisionNumber};
+ghost use Rattle.state.specs.Promises.{Answers, numberOf};
+ghost use Rattle.decide.specs.Decisions.{decisionNumber};
+use decide::DecisionAnswer;
 use state::Answer;
-use state::DecisionAnswer;
 use state::State;
 
 // Keeps the value v of the variable x alone.
@@ -11,7 +12,7 @@ pub fn pin(lent: &mut State, x: u8, v: u8) -> DecisionAnswer
     requires { ⌜ Reached (now lent) ⌝ }
     ensures { λ r. ⌜ Answers (now (lent .entry)) (pin x v) (decisionNumber r) (now (lent .exit)) ⌝ }
 {
-    let after = state::pin(*lent, x, v);
+    let after = decide::pin(*lent, x, v);
     *lent = after.state;
     after.answer
 }
@@ -21,7 +22,7 @@ pub fn ban(lent: &mut State, x: u8, v: u8) -> DecisionAnswer
     requires { ⌜ Reached (now lent) ⌝ }
     ensures { λ r. ⌜ Answers (now (lent .entry)) (ban x v) (decisionNumber r) (now (lent .exit)) ⌝ }
 {
-    let after = state::ban(*lent, x, v);
+    let after = decide::ban(*lent, x, v);
     *lent = after.state;
     after.answer
 }
@@ -31,7 +32,7 @@ pub fn take_back(lent: &mut State, k: usize) -> Answer
     requires { ⌜ Reached (now lent) ⌝ }
     ensures { λ r. ⌜ Answers (now (lent .entry)) (takeBack k) (numberOf r) (now (lent .exit)) ⌝ }
 {
-    let after = state::take_back(*lent, k);
+    let after = decide::take_back(*lent, k);
     *lent = after.state;
     after.answer
 }

@@ -9,8 +9,8 @@ use crate::digits::MOST;
 use crate::lists::bytes;
 use crate::lists::read_bytes;
 use crate::saying;
-use state::Left;
-use state::Solved;
+use decide::Left;
+use leximin::Solved;
 
 // `left VARIABLE`
 pub(crate) fn values_left(desk: Desk, line: &[u8], at: usize) -> Desk
@@ -21,7 +21,7 @@ pub(crate) fn values_left(desk: Desk, line: &[u8], at: usize) -> Desk
     if !variable.fits {
         return stopped(desk);
     }
-    let left = state::values_left(desk.state, variable.value as u8);
+    let left = decide::values_left(desk.state, variable.value as u8);
     match left {
         Left::Values(mask) => saying::left(mask),
         Left::Refused(refusal) => saying::refused(refusal),
@@ -43,7 +43,7 @@ pub(crate) fn solve(desk: Desk, line: &[u8], at: usize) -> Desk
     }
     let mut buffer = [0u8; PLACES];
     let places = at_most_all(length.value as usize);
-    let solved = state::solve(desk.state, &mut buffer[..places]);
+    let solved = leximin::solve(desk.state, &mut buffer[..places]);
     let count = at_most_all(desk.variables);
     match solved {
         Solved::Found => say_found(&buffer, count),

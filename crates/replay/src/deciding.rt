@@ -19,7 +19,7 @@ pub(crate) fn pin(desk: Desk, line: &[u8], at: usize) -> Desk
     if !pair.fits {
         return stopped(desk);
     }
-    let after = state::pin(desk.state, pair.variable, pair.value);
+    let after = decide::pin(desk.state, pair.variable, pair.value);
     let answer = after.answer;
     saying::decided(answer);
     with_state(desk, after.state)
@@ -34,7 +34,7 @@ pub(crate) fn ban(desk: Desk, line: &[u8], at: usize) -> Desk
     if !pair.fits {
         return stopped(desk);
     }
-    let after = state::ban(desk.state, pair.variable, pair.value);
+    let after = decide::ban(desk.state, pair.variable, pair.value);
     let answer = after.answer;
     saying::decided(answer);
     with_state(desk, after.state)
@@ -49,7 +49,7 @@ pub(crate) fn take_back(desk: Desk, line: &[u8], at: usize) -> Desk
     if !depth.fits {
         return stopped(desk);
     }
-    let after = state::take_back(desk.state, depth.value as usize);
+    let after = decide::take_back(desk.state, depth.value as usize);
     let answer = after.answer;
     saying::answered(answer);
     with_state(desk, after.state)

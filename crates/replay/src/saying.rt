@@ -1,6 +1,6 @@
 // The lines that the program writes.
+use decide::DecisionAnswer;
 use state::Answer;
-use state::DecisionAnswer;
 use state::Refusal;
 
 pub(crate) fn say(text: &[u8]) {

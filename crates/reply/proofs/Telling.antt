@@ -25,11 +25,11 @@ use Rattle.profile.specs.declared.Sorted.{Sorted}
 use Rattle.profile.specs.Upwards.{SortedUp, kept, padded}
 use Rattle.state.specs.declared.Refusal.{Refusal}
 use Rattle.state.specs.declared.State.{State}
-use Rattle.state.specs.declared.Solved.{Solved}
-use Rattle.state.specs.declared.Solved.the-variants as Solveds
+use Rattle.leximin.specs.declared.Solved.{Solved}
+use Rattle.leximin.specs.declared.Solved.the-variants as Solveds
 use Rattle.state.specs.Promises.{Answers, tableOf}
 use Rattle.state.specs.Runs.{Run, step}
-use Rattle.state.specs.Solving.{Solves, SolvedAs}
+use Rattle.leximin.specs.Solving.{Solves, SolvedAs}
 use Rattle.state.proofs.Runs.{run-stands}
 use Rattle.lines.specs.Lines.{foundLines, foundText, inconsistentLine}
 use Rattle.lines.specs.Writing.{Written}

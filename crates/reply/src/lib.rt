@@ -8,11 +8,11 @@ ghost use Rattle.state.specs.Holds.{Reached};
 ghost use Rattle.lines.specs.Lines.{foundLines};
 ghost use Rattle.lines.specs.Writing.{Written};
 ghost use Rattle.reply.specs.Replies.{Replies, Answers, SolvedLines};
+use leximin::Solved;
 use lines::LINES;
 use meaning::OBJECTIVES;
 use meaning::VARIABLES;
 use numbers::number_of;
-use state::Solved;
 use state::State;
 use wcsp::Outcome;
 
@@ -47,7 +47,7 @@ fn write_solved(state: State, n: usize, out: &mut [u8; LINES]) -> usize
     let named = state::name_objectives(state, &first[..count]);
     let ready = named.state;
     let mut values = [0u8; VARIABLES];
-    let solved = state::solve(ready, &mut values);
+    let solved = leximin::solve(ready, &mut values);
     match solved {
         Solved::Found => write_rota(values, n, out),
         Solved::Inconsistent => lines::write_inconsistent(out),

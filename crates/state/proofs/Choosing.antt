@@ -1,6 +1,6 @@
 -- The search within lists, from the search within smaller ones: narrowed lists, and one value after the other of the lowest open variable.
 -- Assumes nothing.
-use mathlib.Core.Path.{_≡_, sym, _∙_}
+use mathlib.Core.Path.{_≡_, sym, ap, _∙_}
 use mathlib.Core.Bool.{Bool, true, false, true≢false}
 use mathlib.Core.Logic.{by-cases}
 use mathlib.Core.List.{List}
@@ -8,7 +8,7 @@ use Prim.Native.Nat.{ℕ, _≤_, _<_}
 use native.Mathlib.Decide.{ℕ-discrete, decLt}
 use native.Mathlib.Omega.{arith}
 use lib.Arith.{lt-of-le-ne}
-use lib.ListN.{length, getD, set, take}
+use lib.ListN.{length, getD, set, take, length-replicate}
 use Rattle.meaning.specs.Limits.{valueLimit, variableLimit, objectiveLimit}
 use Rattle.meaning.specs.Values.{Has, size}
 use Rattle.meaning.specs.Rules.{Rule, at}
@@ -17,30 +17,36 @@ use Rattle.meaning.specs.Lists.{Left, Closed}
 use Rattle.meaning.proofs.Digits.{zero-bit}
 use Rattle.meaning.proofs.Leximin.{≺-iff}
 use Rattle.values.specs.Sets.{Alone, Lowest, Removed}
+use Rattle.blocks.proofs.Copying.{zeros-at}
 use Rattle.state.specs.Layout.{rulesAt}
 use Rattle.state.specs.Filter.{weight}
-use Rattle.state.specs.Search.{Meets, Searched, Sieved, Net}
+use Rattle.state.specs.Search.{Meets, Searched, Nothing, Sieved, Net}
 use Rattle.state.specs.Choosing.{FirstOpen, TellsEmpty, Choosable, Narrowable}
 use Rattle.state.proofs.Waves.{closed-by-each}
 use Rattle.state.proofs.Trying.{meets-wider, alone-value, alone-within, meets-alone, tries, alone-less}
 
 -- a search that finds nothing where there is nothing
-pub searched-none : {rules : List Rule} {objectives y : List ℕ} {n : ℕ} {L : List ℕ} {found : Bool} {out : List ℕ} → found ≡ false
+pub searched-none : {rules : List Rule} {objectives y : List ℕ} {n : ℕ} {L : List ℕ} {found : Bool} {out : List ℕ} → Nothing found out
     → ((a : List ℕ) → ¬ Meets rules objectives y n L a) → Searched rules objectives y n L found out
-searched-none e none = record { first = λ t. absurd (true≢false (sym t ∙ e)); none = λ _. none }
+searched-none (e, zeros) none = record {
+  blank = record { long = ap length zeros ∙ length-replicate {A = ℕ} variableLimit 0; past = λ x _. rw zeros (zeros-at variableLimit x) };
+  first = λ t. absurd (true≢false (sym t ∙ e));
+  none = λ _. none;
+}
 
 -- ---- narrowed lists
 
 module _ {rules : List Rule} {objectives y : List ℕ} {n : ℕ} {old new : List ℕ} {alive : Bool} (sieved : Sieved rules objectives y n old alive new) where
   pub sieved-searched : {found : Bool} {out : List ℕ} → Searched rules objectives y n new found out → Searched rules objectives y n old found out
   sieved-searched {out} s = record {
+    blank = s .blank;
     first = λ e.
         let f = s .first e in
         record { holds = meets-wider new old (take n out) (sieved .within) (f .holds); first = λ b m. f .first b (sieved .keeps b m) };
     none = λ e a m. s .none e a (sieved .keeps a m);
   }
 
-  pub sieved-dead : {found : Bool} {out : List ℕ} → alive ≡ false → found ≡ false → Searched rules objectives y n old found out
+  pub sieved-dead : {found : Bool} {out : List ℕ} → alive ≡ false → Nothing found out → Searched rules objectives y n old found out
   sieved-dead d e = searched-none e (sieved .dead d)
 
 pub sieved-choosable : {heads room : List ℕ} {rules : ℕ} {sets objective : List ℕ} {count : ℕ} {floors : List ℕ} {n due : ℕ} {old new : List ℕ} {alive : Bool}
@@ -68,7 +74,7 @@ closed-narrowable {heads} {room} {rules} {L} net long shut tells full = record {
 }
 
 -- within lists of which one is empty there is nothing
-pub none-empty : {rules : List Rule} {objectives y : List ℕ} {n : ℕ} {L : List ℕ} {empty found : Bool} {out : List ℕ} → TellsEmpty L n empty → empty ≡ true → found ≡ false
+pub none-empty : {rules : List Rule} {objectives y : List ℕ} {n : ℕ} {L : List ℕ} {empty found : Bool} {out : List ℕ} → TellsEmpty L n empty → empty ≡ true → Nothing found out
     → Searched rules objectives y n L found out
 none-empty {L} tells some e =
     searched-none {L = L} e λ a m.
@@ -104,7 +110,7 @@ module _ {heads room : List ℕ} {rules : ℕ} {sets objective : List ℕ} {coun
   pub try-all : Trying (getD L x 0)
   try-all = record { within = λ v h. h; others = λ a m. m .inside x known }
 
-  pub tried-all : {rest : ℕ} {found : Bool} {out : List ℕ} → Trying rest → rest ≡ 0 → found ≡ false → Answer L found out
+  pub tried-all : {rest : ℕ} {found : Bool} {out : List ℕ} → Trying rest → rest ≡ 0 → Nothing found out → Answer L found out
   tried-all left z e =
       searched-none {L = L} e λ a m.
       let h : Has 0 (at a x) = rw z at (left .others a m) in
@@ -148,7 +154,7 @@ module _ {heads room : List ℕ} {rules : ℕ} {sets objective : List ℕ} {coun
 
         -- the first with the least value is the first of all
         pub tried-found : Answer L found out
-        tried-found = record { first = λ _. record { holds = meets; first = first }; none = λ z. absurd (true≢false (sym e ∙ z)) }
+        tried-found = record { blank = tried .blank; first = λ _. record { holds = meets; first = first }; none = λ z. absurd (true≢false (sym e ∙ z)) }
 
       -- where there is none with it, the others are left
       pub tried-none : {more : ℕ} → Removed rest v more → found ≡ false → Trying more

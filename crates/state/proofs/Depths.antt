@@ -1,25 +1,24 @@
--- The blocks of lists: what a decision adds, and what taking back leaves. Assumes nothing.
-use mathlib.Core.Path.{_≡_, refl, sym, ap, _∙_}
-use mathlib.Core.Logic.{_⊎_, inl, inr, ⊎-elim, by-cases}
-use mathlib.Core.List.{List, [], _∷_, _++_}
-use Prim.Native.Nat.{ℕ, zero, suc, _+_, _-_, _*_, _≤_, _<_}
-use native.Mathlib.Decide.{ℕ-discrete, decLt, decLe}
+-- Lists of the variables, in more places than there are variables: what they leave, and when they are closed. Assumes nothing.
+use mathlib.Core.Path.{_≡_, sym, _∙_}
+use mathlib.Core.Logic.{_⊎_, inl, ⊎-elim, by-cases}
+use mathlib.Core.List.{List, []}
+use Prim.Native.Nat.{ℕ, _-_, _≤_, _<_}
+use native.Mathlib.Decide.{decLt}
 use native.Mathlib.Omega.{arith}
-use lib.ListN.{length, getD, set, take, drop, replicate, length-append, length-take, length-drop, length-replicate, List·getD-eq-default}
-use lib.Seq.{paste, length-paste, ext-getD, getD-take, getD-drop, take-all, take-take, take-append-le, length-take-le}
+use lib.ListN.{length, getD, take, length-take, List·getD-eq-default}
+use lib.Seq.{getD-take}
 use Rattle.meaning.specs.Limits.{variableLimit, decisionLimit}
-use Rattle.meaning.specs.Values.{Has}
 use Rattle.meaning.specs.Rules.{Rule}
-use Rattle.meaning.specs.Standing.{Standing, Decision}
-use Rattle.meaning.specs.Lists.{Left, Supported, Closed, Within, Largest}
-use Rattle.meaning.specs.Calls.{withDecisions, decide}
+use Rattle.meaning.specs.Standing.{Standing}
+use Rattle.meaning.specs.Lists.{Closed, Largest}
 use Rattle.meaning.specs.Proper.{Proper}
+use Rattle.meaning.proofs.Digits.{zero-bit, bit-cases, ext-all}
 use Rattle.meaning.proofs.Largest.{_⊑_, Between, supported-mono, within-mono}
 use Rattle.meaning.proofs.Solutions.{left-below}
 use Rattle.state.specs.Filter.{LargestIn}
-use Rattle.state.specs.Holds.{HoldsLists, upTo, block, blockPlaces, zeroedFrom}
-use Rattle.state.proofs.Copying.{paste-in, paste-before, paste-after}
-use Rattle.state.proofs.Padding.{zeros-at}
+use Rattle.blocks.specs.Blocks.{block}
+use Rattle.state.specs.Holds.{HoldsLists}
+use Rattle.blocks.proofs.Reading.{block-at, block-length}
 
 -- ---- lists of n variables, in more places
 
@@ -47,21 +46,17 @@ settled {w} {B} {C} {K} {M} b m bc cb km mk e = record {
   most = λ J h shut x v k. mk x v (m .most J (λ y u l. cb y u (b .most J h shut y u l)) shut x v k);
 }
 
--- ---- blocks, place by place
+-- lists within others that are empty somewhere are empty there
+pub empty-within : (K L : List ℕ) (x : ℕ) → K ⊑ L → getD L x 0 ≡ 0 → getD K x 0 ≡ 0
+empty-within K L x sub e =
+    ext-all (getD K x 0) 0 λ v.
+    ⊎-elim (λ z. z ∙ sym (zero-bit v)) (λ h. absurd (let k = rw e at (sub x v h) in let z = zero-bit v in omega arith)) (bit-cases (getD K x 0) v)
 
-pub block-at : (l : List ℕ) (k n x : ℕ) → x < n → getD (block l k n) x 0 ≡ getD l (variableLimit * k + x) 0
-block-at l k n x h = getD-take n (drop (variableLimit * k) l) x 0 h ∙ getD-drop (variableLimit * k) l x 0
+-- lists with the same numbers leave the same
+pub same-within : (K L : List ℕ) → ((x : ℕ) → getD K x 0 ≡ getD L x 0) → K ⊑ L
+same-within K L e x v h = rw (e x) at h
 
-pub block-length : (l : List ℕ) (k n : ℕ) → length l ≡ blockPlaces → k ≤ decisionLimit → n ≤ variableLimit → length (block l k n) ≡ n
-block-length l k n e h few = length-take-le n (drop (variableLimit * k) l) (omega (arith, length-drop (variableLimit * k) l))
-
--- lists with the same numbers there have the same block
-block-same : (l m : List ℕ) (k n : ℕ) → length l ≡ blockPlaces → length m ≡ blockPlaces → k ≤ decisionLimit → n ≤ variableLimit
-    → ((x : ℕ) → x < n → getD m (variableLimit * k + x) 0 ≡ getD l (variableLimit * k + x) 0) → block m k n ≡ block l k n
-block-same l m k n el em h few same =
-    ext-getD 0 (block m k n) (block l k n) (block-length m k n em h few ∙ sym (block-length l k n el h few)) λ x i.
-    let j : x < n = omega (arith, block-length m k n em h few) in
-    block-at m k n x j ∙ same x j ∙ sym (block-at l k n x j)
+-- ---- blocks
 
 module _ (w : Standing) (p : Proper w) (l : List ℕ) (h : HoldsLists l w) where
   -- a block in all its places leaves what it leaves to the variables
@@ -79,119 +74,3 @@ module _ (w : Standing) (p : Proper w) (l : List ℕ) (h : HoldsLists l w) where
           by-cases (decLt x variableLimit) (λ i. block-at l k variableLimit x i ∙ h .rest k x i (inl (omega arith)))
           (λ i. List·getD-eq-default (block l k variableLimit) 0 {n = x} (omega (arith, block-length l k variableLimit (h .long) deep (omega arith))))
           ∙ sym (List·getD-eq-default (block l k (length (w .declared))) 0 {n = x} (omega (arith, block-length l k (length (w .declared)) (h .long) deep (p .variables))))
-
-  -- ---- one decision more
-
-  module _ (d : Decision) (room : length (w .decisions) < decisionLimit) (M : List ℕ) (long : length M ≡ variableLimit)
-      (largest : Largest (decide w d) (take (length (w .declared)) M)) (none : (x : ℕ) → length (w .declared) ≤ x → getD M x 0 ≡ 0) where
-    next : ℕ
-    next = variableLimit * (length (w .decisions) + 1)
-
-    more : List ℕ
-    more = paste l next M variableLimit
-
-    more-length : length more ≡ blockPlaces
-    unfolding more next
-    more-length = length-paste l next M variableLimit (omega (arith, h .long)) (omega arith) ∙ h .long
-
-    more-in : (x : ℕ) → x < variableLimit → getD more (variableLimit * (length (w .decisions) + 1) + x) 0 ≡ getD M x 0
-    unfolding more next
-    more-in x i = paste-in l next M variableLimit (omega (arith, h .long)) (omega arith) x i
-
-    more-out : (k x : ℕ) → x < variableLimit → ¬ (k ≡ length (w .decisions) + 1) → getD more (variableLimit * k + x) 0 ≡ getD l (variableLimit * k + x) 0
-    unfolding more next
-    more-out k x i other =
-        by-cases (decLt k (length (w .decisions) + 1)) (λ j. paste-before l next M variableLimit (omega (arith, h .long)) (omega arith) (variableLimit * k + x) (omega arith))
-        (λ j. paste-after l next M variableLimit (omega (arith, h .long)) (omega arith) (variableLimit * k + x) (omega arith))
-
-    left : (k : ℕ) → k ≤ length (w .decisions ++ (d ∷ [])) → Largest (upTo (decide w d) k) (block more k (length (w .declared)))
-    left k j = by-cases (decLt (length (w .decisions)) k) (λ new. last k (omega (arith, length-append (w .decisions) (d ∷ [])))) (λ old. earlier k (omega arith))
-      where
-        earlier : (k : ℕ) → k ≤ length (w .decisions) → Largest (upTo (decide w d) k) (block more k (length (w .declared)))
-        earlier k j =
-            let b = block-same l more k (length (w .declared)) (h .long) more-length (omega arith) (p .variables) (λ x i. more-out k x (omega (arith, p .variables)) (omega arith)) in
-            rw (b, take-append-le k (w .decisions) (d ∷ []) j) (h .left k j)
-
-        last : (k : ℕ) → k ≡ length (w .decisions) + 1 → Largest (upTo (decide w d) k) (block more k (length (w .declared)))
-        last k e =
-            let all = take-all k (w .decisions ++ (d ∷ [])) (omega (arith, length-append (w .decisions) (d ∷ []))) in
-            let b : block more k (length (w .declared)) ≡ take (length (w .declared)) M =
-            ext-getD 0 (block more k (length (w .declared))) (take (length (w .declared)) M)
-            (block-length more k (length (w .declared)) more-length (omega arith) (p .variables) ∙ sym (length-take-le (length (w .declared)) M (omega (arith, p .variables))))
-            (λ x i.
-            let small : x < length (w .declared) = omega (arith, block-length more k (length (w .declared)) more-length (omega arith) (p .variables)) in
-            block-at more k (length (w .declared)) x small ∙ ap (λ (j : ℕ). getD more (variableLimit * j + x) 0) e
-            ∙ more-in x (omega (arith, p .variables)) ∙ sym (getD-take (length (w .declared)) M x 0 small)) in
-            rw (b, all) largest
-
-    pub lists-decided : HoldsLists (paste l (variableLimit * (length (w .decisions) + 1)) M variableLimit) (decide w d)
-    unfolding more next
-    lists-decided = record {
-      long = more-length;
-      left = left;
-      rest = λ k x small past. by-cases (ℕ-discrete k (length (w .decisions) + 1)) (here k x small past) (there k x small past);
-    }
-      where
-        here : (k x : ℕ) → x < variableLimit → (length (w .declared) ≤ x) ⊎ (length (w .decisions ++ (d ∷ [])) < k) → k ≡ length (w .decisions) + 1
-            → getD more (variableLimit * k + x) 0 ≡ 0
-        here k x small past e =
-            let i : length (w .declared) ≤ x = ⊎-elim (λ i. i) (λ i. absurd (omega (arith, length-append (w .decisions) (d ∷ [])))) past in
-            ap (λ (j : ℕ). getD more (variableLimit * j + x) 0) e ∙ more-in x small ∙ none x i
-
-        there : (k x : ℕ) → x < variableLimit → (length (w .declared) ≤ x) ⊎ (length (w .decisions ++ (d ∷ [])) < k) → ¬ (k ≡ length (w .decisions) + 1)
-            → getD more (variableLimit * k + x) 0 ≡ 0
-        there k x small past other =
-            more-out k x small other ∙ h .rest k x small (⊎-elim inl (λ i. inr (omega (arith, length-append (w .decisions) (d ∷ [])))) past)
-
-  -- ---- back to the first k decisions
-
-  module _ (k : ℕ) (few : k ≤ length (w .decisions)) where
-    from : ℕ
-    from = variableLimit * k + variableLimit
-
-    back : List ℕ
-    back = zeroedFrom l from
-
-    back-length : length back ≡ blockPlaces
-    unfolding back from
-    back-length =
-        length-paste l from (replicate (blockPlaces - from) 0) (blockPlaces - from) (omega (arith, h .long, p .decisions)) (omega (arith, length-replicate {A = ℕ} (blockPlaces - from) 0))
-        ∙ h .long
-
-    back-before : (i : ℕ) → i < from → getD back i 0 ≡ getD l i 0
-    unfolding back from
-    back-before i j =
-        paste-before l from (replicate (blockPlaces - from) 0) (blockPlaces - from) (omega (arith, h .long, p .decisions)) (omega (arith, length-replicate {A = ℕ} (blockPlaces - from) 0)) i j
-
-    back-zero : (i : ℕ) → from ≤ i → getD back i 0 ≡ 0
-    unfolding back from
-    back-zero i j = by-cases (decLt i blockPlaces) inside (λ out. List·getD-eq-default back 0 {n = i} (omega (arith, back-length)))
-      where
-        inside : i < blockPlaces → getD back i 0 ≡ 0
-        inside u =
-            let e : from + (i - from) ≡ i = omega arith in
-            ap (λ (m : ℕ). getD back m 0) (sym e)
-            ∙ paste-in l from (replicate (blockPlaces - from) 0) (blockPlaces - from) (omega (arith, h .long, p .decisions)) (omega (arith, length-replicate {A = ℕ} (blockPlaces - from) 0)) (i - from) (omega arith)
-            ∙ zeros-at (blockPlaces - from) (i - from)
-
-    pub lists-back : HoldsLists (zeroedFrom l (variableLimit * k + variableLimit)) (withDecisions w (take k (w .decisions)))
-    unfolding back from
-    lists-back = record {
-      long = back-length;
-      left = left;
-      rest = λ j x small past. by-cases (decLt k j) (λ over. back-zero (variableLimit * j + x) (omega arith)) (λ low. stays j x small past (omega arith));
-    }
-      where
-        size : length (take k (w .decisions)) ≡ k
-        size = length-take-le k (w .decisions) few
-
-        left : (j : ℕ) → j ≤ length (take k (w .decisions)) → Largest (upTo (withDecisions w (take k (w .decisions))) j) (block back j (length (w .declared)))
-        left j i =
-            let low : j ≤ k = omega (arith, size) in
-            let b = block-same l back j (length (w .declared)) (h .long) back-length (omega (arith, p .decisions)) (p .variables)
-            (λ x u. back-before (variableLimit * j + x) (omega (arith, p .variables))) in
-            rw (b, take-take j k (w .decisions) low) (h .left j (omega arith))
-
-        stays : (j x : ℕ) → x < variableLimit → (length (w .declared) ≤ x) ⊎ (length (take k (w .decisions)) < j) → j ≤ k → getD back (variableLimit * j + x) 0 ≡ 0
-        stays j x small past low =
-            back-before (variableLimit * j + x) (omega arith) ∙ h .rest j x small (⊎-elim inl (λ i. absurd (omega (arith, size))) past)

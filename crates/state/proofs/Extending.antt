@@ -1,25 +1,23 @@
 -- A rule more: the state is laid out with it, the lists follow, and what stands with it is held. Assumes nothing.
-use mathlib.Core.Path.{_≡_, refl, sym, ap, ap₂, _∙_, subst}
-use mathlib.Core.Logic.{_⊎_, inl, inr, ⊎-elim, by-cases}
-use mathlib.Core.List.{List, [], _∷_, _++_, map, List·Memᴰ, List·Memᴰ·append-cases, List·Memᴰ·eq-of-singleton}
-use Prim.Native.Nat.{ℕ, zero, suc, _+_, _-_, _*_, _/_, _%_, _^_, _≤_, _<_}
+use mathlib.Core.Path.{_≡_, refl, sym, ap, _∙_}
+use mathlib.Core.Logic.{_⊎_, inr, ⊎-elim, by-cases}
+use mathlib.Core.List.{List, [], _∷_, _++_, map}
+use Prim.Native.Nat.{ℕ, zero, suc, _+_, _-_, _*_, _/_, _^_, _≤_, _<_}
 use native.Mathlib.Nat.{div-add-mod', mul-comm, mul-le-mul-left, mul-one}
-use native.Mathlib.Decide.{decLt, ℕ-discrete}
+use native.Mathlib.Decide.{ℕ-discrete}
 use native.Mathlib.Omega.{arith}
 use lib.IntN.{ℤ}
 use lib.ListN.{length, getD, take, drop, length-append, length-take, List·getD-eq-default}
 use lib.Seq.{paste, length-paste, length-take-le, take-at, take-length, take-append-le, take-take}
-use Rattle.meaning.specs.Limits.{variableLimit, ruleLimit, roomLimit, coefficientLimit, boundLimit, decisionLimit}
+use Rattle.meaning.specs.Limits.{variableLimit, ruleLimit, roomLimit, coefficientLimit, boundLimit}
 use Rattle.meaning.specs.Values.{bit, Has, Lacks}
 use Rattle.meaning.specs.Rules.{Rule, linear, scopeOf, room}
 use Rattle.meaning.specs.Standing.{Standing}
-use Rattle.meaning.specs.Lists.{Left, Largest, Closed}
+use Rattle.meaning.specs.Lists.{Largest}
 use Rattle.meaning.specs.Calls as Calls
 use Rattle.meaning.specs.Calls.{Call, tuplesOf, ruleOf, held, withRule, refusal, accepted}
-use Rattle.meaning.specs.Histories.{Leaves}
-use Rattle.meaning.specs.Proper.{Proper, ProperRule}
+use Rattle.meaning.specs.Proper.{Proper}
 use Rattle.meaning.proofs.Digits.{bit-pow-same, bit-pow-other}
-use Rattle.meaning.proofs.Largest.{_⊑_}
 use Rattle.meaning.proofs.Proper.{leaves-proper, accepted-proper, number-above, rows-count, held-more}
 use Rattle.meaning.proofs.Steps.{rule-between}
 use Rattle.state.specs.declared.State.{State}
@@ -32,14 +30,15 @@ use Rattle.state.specs.Layout.{shift, sortOf, lastOf, roomOf, padded, ru
 use Rattle.state.specs.Filter.{LargestIn}
 use Rattle.state.specs.Spreading.{ClosedBy}
 use Rattle.state.specs.Writing.{Put, PutHead}
-use Rattle.state.specs.Holds.{Holds, HoldsLists, Reached, upTo, block}
+use Rattle.blocks.specs.Blocks.{block}
+use Rattle.state.specs.Holds.{Holds, HoldsLists, Reached, upTo}
 use Rattle.state.specs.Promises.{Answers, sortSaid, numberOf, tableOf}
 use Rattle.state.specs.Additions.{sortNumber, TableFits, LinearFits, LaidOut, Extends, Followable, Followed, Counted}
 use Rattle.state.proofs.Answering.{stays, accepts}
 use Rattle.state.proofs.Holding.{current, none-of}
-use Rattle.state.proofs.Depths.{wide-block, block-length, settled, first-within, within-first}
-use Rattle.state.proofs.Copying.{paste-in, paste-after}
-use Rattle.state.proofs.Decisions.{empty-within, same-within}
+use Rattle.blocks.proofs.Reading.{block-length}
+use Rattle.state.proofs.Depths.{wide-block, settled, first-within, within-first, empty-within, same-within}
+use Rattle.blocks.proofs.Copying.{paste-in, paste-after}
 use Rattle.state.proofs.Reading.{first-rules}
 use Rattle.state.proofs.ReadBack as ReadBack
 use Rattle.state.proofs.Waves.{closed-kept, closed-by-each}
@@ -179,6 +178,7 @@ module _ (s t : State) (w : Standing) (r : Rule) (p : Proper w) (q : Proper (wit
   pub followable : Followable t (s .rules)
   unfolding wide narrow
   followable = record {
+    lists = ap length (l .lists) ∙ hold .lists .long;
     few = omega (arith, l .rules, q .count);
     placed = λ k i. ReadBack.placed (w .rules ++ (r ∷ [])) (q .rules) (t .heads) (t .room) (l .heads) (l .room) (q .variables) (q .count) (q .room) k (omega (arith, l .rules));
     due = rw (l .lists) (record { known = known; others = others });

@@ -5,20 +5,21 @@ use mathlib.Core.List.{List, [], _∷_, _++_}
 use Prim.Native.Nat.{ℕ, zero, suc, _+_, _*_, _≤_, _<_}
 use native.Mathlib.Omega.{arith}
 use native.Mathlib.Nat.{le-refl}
-use lib.ListN.{length, getD, set, take, drop, replicate, length-replicate, length-append, length-set}
+use lib.ListN.{length, getD, set, replicate, length-replicate, length-append, length-set}
 use lib.Seq.{take-length, take-nil, take-suc-set, getD-set-other}
-use native.Mathlib.Numerals.{add-one}
 use Rattle.meaning.specs.Limits.{variableLimit, ruleLimit, roomLimit, objectiveLimit, decisionLimit}
 use Rattle.meaning.specs.Standing.{Standing, Decision, nothing}
 use Rattle.meaning.specs.Lists.{Largest}
-use Rattle.meaning.specs.Calls.{addVariable, accepted, held, withDecisions}
+use Rattle.meaning.specs.Calls.{addVariable, accepted, held}
 use Rattle.meaning.specs.Proper.{Proper}
 use Rattle.meaning.proofs.Proper.{leaves-proper}
 use Rattle.meaning.proofs.Steps.{nothing-largest, variable-largest}
 use Rattle.state.specs.declared.State.{State}
 use Rattle.state.specs.Layout.{headsOf, roomOf, padded}
-use Rattle.state.specs.Holds.{Holds, HoldsLists, Reached, upTo, block, blockPlaces}
-use Rattle.state.proofs.Padding.{padded-set, padded-nil, zeros-at}
+use Rattle.blocks.specs.Blocks.{block, blockPlaces}
+use Rattle.state.specs.Holds.{Holds, HoldsLists, Reached, upTo}
+use Rattle.blocks.proofs.Copying.{zeros-at}
+use Rattle.state.proofs.Padding.{padded-set, padded-nil}
 
 pub none-of : (ds : List Decision) → length ds ≡ 0 → ds ≡ []
 none-of [] e = refl

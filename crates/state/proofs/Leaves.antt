@@ -71,6 +71,7 @@ module _ {heads room touching objective : List ℕ} {rules count : ℕ} {floors 
   pub leaf : {found : Bool} → found ≡ true → Searched (rulesAt heads room rules) (take count objective) (take count floors) n L found lows
   unfolding answer
   leaf e = record {
+    blank = record { long = low .long; past = λ x. ⊎-elim (λ z. absurd (true≢false (sym e ∙ z))) (low .past x) };
     first = λ _. record {
       holds = meets;
       first = λ b m before.

@@ -6,7 +6,6 @@ pub mod Narrowing
 pub mod Passes
 pub mod Ways
 pub mod Walking
-pub mod TakingBack
 pub mod Tallies
 pub mod Supporting
 pub mod Sifting
@@ -27,10 +26,8 @@ pub mod Putting
 pub mod Behind
 pub mod Answering
 pub mod Holding
-pub mod Copying
 pub mod Depths
 pub mod Reading
-pub mod Decisions
 pub mod Waves
 pub mod Lifting
 pub mod Reaching
@@ -45,11 +42,5 @@ pub mod Extending
 pub mod Naming
 pub mod NewLinear
 pub mod Runs
+pub mod Taking
 pub mod Unique
-pub mod Arrays
-pub mod Profiles
-pub mod Floors
-pub mod Climbs
-pub mod Solvable
-pub mod Outcomes
-pub mod SolveUnique

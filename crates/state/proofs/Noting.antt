@@ -2,7 +2,7 @@
 use mathlib.Core.Path.{_≡_, refl, sym, ap, _∙_}
 use mathlib.Core.Logic.{_⊎_, inl, inr, ⊎-elim, by-cases}
 use mathlib.Core.Bool.{Bool, true, false, true≢false}
-use mathlib.Core.List.{List, [], _∷_, _++_, List·Memᴰ, List·Memᴰ·not-nil, List·Memᴰ·append-cases, List·Memᴰ·eq-of-singleton}
+use mathlib.Core.List.{List, [], List·Memᴰ·not-nil, List·Memᴰ·append-cases, List·Memᴰ·eq-of-singleton}
 use Prim.Native.Nat.{ℕ, zero, suc, _+_, _^_, _≤_, _<_}
 use native.Mathlib.Decide.{ℕ-discrete}
 use native.Mathlib.Numerals.{add-one}
@@ -11,15 +11,14 @@ use lib.Bits.{bitOr}
 use lib.ListN.{length, getD, set, take, replicate, length-set, length-replicate}
 use lib.Seq.{take-suc, getD-set-same, getD-set-other}
 use Rattle.meaning.specs.Limits.{variableLimit}
-use Rattle.meaning.specs.Values.{bit, Has, Lacks, size}
+use Rattle.meaning.specs.Values.{bit, Has, Lacks}
 use Rattle.meaning.specs.Rules.{scopeOf}
-use Rattle.meaning.proofs.Digits.{bit-cases, bit-lt, zero-bit, bit-pow-same, bit-pow-other}
+use Rattle.meaning.proofs.Digits.{zero-bit, bit-pow-same, bit-pow-other}
 use Rattle.meaning.proofs.Sets.{or-iff}
 use Rattle.values.specs.Sets.{Lowest, Dropped, Removed}
-use Rattle.state.specs.declared.spreading.Affected.{Affected}
-use Rattle.state.specs.Layout.{scopeAt, ruleBy, sizeBy, head, ruleAt, Placed}
+use Rattle.state.specs.Layout.{scopeAt, ruleBy, sizeBy, head, Placed}
 use Rattle.state.specs.Spreading.{Touching, ScopeFits, Noted, InVariables, AffectedBy}
-use Rattle.state.proofs.Padding.{zeros-at}
+use Rattle.blocks.proofs.Copying.{zeros-at}
 use Rattle.state.proofs.Sifting.{at-mem}
 use Rattle.state.proofs.Turns.{part-at, part-length}
 

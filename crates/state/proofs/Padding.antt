@@ -3,7 +3,7 @@ use mathlib.Core.Path.{_≡_, refl, sym, ap, ap₂, _∙_}
 use mathlib.Core.List.{List, [], _∷_, _++_, append-assoc}
 use Prim.Native.Nat.{ℕ, zero, suc, _+_, _-_, _≤_, _<_}
 use native.Mathlib.Omega.{arith}
-use lib.ListN.{length, getD, set, take, drop, replicate, length-append, length-replicate}
+use lib.ListN.{length, set, take, drop, replicate, length-append, length-replicate}
 use lib.Seq.{sets, sets-eq, paste, take-length, take-at, drop-at, drop-drop, set-append-seam}
 use Rattle.state.specs.Layout.{padded}
 
@@ -53,7 +53,6 @@ padded-set n l x h =
 pub padded-nil : (n : ℕ) → padded n [] ≡ replicate n 0
 padded-nil n = ap zeros {x = n - 0} {y = n} (omega arith)
 
-pub zeros-at : (n i : ℕ) → getD {A = ℕ} (replicate n 0) i 0 ≡ 0
-zeros-at zero i = refl
-zeros-at (suc n) zero = refl
-zeros-at (suc n) (suc i) = zeros-at n i
+-- a list copied into zeros
+pub put-zeros : (n : ℕ) (s : List ℕ) → paste (replicate n 0) 0 s (length s) ≡ padded n s
+put-zeros n s = ap (λ (z : List ℕ). paste z 0 s (length s)) (sym (padded-nil n)) ∙ paste-padded n [] s 0 refl

@@ -3,7 +3,7 @@ use mathlib.Core.Path.{_≡_, refl, sym, ap, _∙_}
 use mathlib.Core.Logic.{by-cases}
 use mathlib.Core.Bool.{true, false, _&&_}
 use mathlib.Core.List.{List, []}
-use Prim.Native.Nat.{ℕ, zero, suc, _+_, _*_, _^_, _<_}
+use Prim.Native.Nat.{ℕ, _+_, _*_, _^_, _<_}
 use native.Mathlib.Decide.{ℕ-discrete}
 use native.Mathlib.Omega.{arith}
 use borrow.Author.Tests.{eq-eqb, ne-eqb}
@@ -16,13 +16,9 @@ use Rattle.meaning.proofs.Counting.{one, one-le, count-take}
 use Rattle.meaning.proofs.Digits.{zero-bit, bit-or, bit-pow-same, bit-pow-other}
 use Rattle.meaning.proofs.Listed.{live, liveWith}
 use Rattle.meaning.proofs.Proper.{rows-count}
+use Rattle.blocks.proofs.Copying.{zeros-at}
 use Rattle.state.specs.Tables.{Marking, Marked, places}
 use Rattle.state.proofs.Cells.{part-at, tuple-at}
-
-pub zeros-at : (n j : ℕ) → _≡_ {A = ℕ} (getD (replicate n 0) j 0) 0
-zeros-at zero j = refl
-zeros-at (suc n) zero = refl
-zeros-at (suc n) (suc j) = zeros-at n j
 
 bit-pow : (w v : ℕ) → bit (2 ^ w) v ≡ one (eqb w v)
 bit-pow w v =

@@ -1,16 +1,17 @@
 -- Demand 3: after any run of calls the state holds what the history leaves standing, so its lists are the largest.
 -- Assumes nothing.
-use mathlib.Core.Path.{_≡_, refl, sym, ap, _∙_}
+use mathlib.Core.Path.{_≡_}
 use mathlib.Core.List.{List, [], _∷_}
 use Prim.Native.Nat.{ℕ, _≤_}
-use lib.ListN.{length, take}
+use lib.ListN.{length}
 use Rattle.meaning.specs.Standing.{Standing, nothing}
 use Rattle.meaning.specs.Lists.{Largest}
 use Rattle.meaning.specs.Calls.{Call, after}
 use Rattle.meaning.specs.Histories.{Leaves, none, call}
 use Rattle.meaning.proofs.Histories.{leaves-unique}
 use Rattle.state.specs.declared.State.{State}
-use Rattle.state.specs.Holds.{Holds, Reached, upTo, block}
+use Rattle.blocks.specs.Blocks.{block}
+use Rattle.state.specs.Holds.{Holds, Reached, upTo}
 use Rattle.state.specs.Promises.{Answers}
 use Rattle.state.specs.Runs.{Run, start, step}
 use Rattle.state.proofs.Holding.{current}

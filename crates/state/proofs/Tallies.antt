@@ -15,7 +15,8 @@ use Rattle.meaning.specs.Calls.{rows}
 use Rattle.meaning.proofs.Counting.{one, count-le}
 use Rattle.meaning.proofs.Listed.{live}
 use Rattle.state.specs.Tables.{Tallying, Counted, Blank, cell, places}
-use Rattle.state.proofs.Passes.{passed, zeros-at, live-more, dead-more}
+use Rattle.blocks.proofs.Copying.{zeros-at}
+use Rattle.state.proofs.Passes.{passed, live-more, dead-more}
 
 -- ---- one tuple
 

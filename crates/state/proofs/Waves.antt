@@ -2,8 +2,8 @@
 use mathlib.Core.Path.{_≡_, refl, sym, ap, _∙_}
 use mathlib.Core.Logic.{_⊎_, inl, inr, ⊎-elim, by-cases}
 use mathlib.Core.Bool.{Bool, true, false, true≢false}
-use mathlib.Core.List.{List, [], _∷_, _++_, List·Memᴰ, List·Memᴰ·head, List·Memᴰ·not-nil, List·Memᴰ·append-cases, List·Memᴰ·eq-of-singleton, Memᴰ·append-left, Memᴰ·append-right}
-use Prim.Native.Nat.{ℕ, zero, suc, _+_, _*_, _≤_, _<_}
+use mathlib.Core.List.{List, [], _∷_, List·Memᴰ, List·Memᴰ·head, List·Memᴰ·not-nil, List·Memᴰ·append-cases, List·Memᴰ·eq-of-singleton, Memᴰ·append-left, Memᴰ·append-right}
+use Prim.Native.Nat.{ℕ, zero, suc, _+_, _*_, _<_}
 use native.Mathlib.Decide.{ℕ-discrete, decLt}
 use native.Mathlib.Omega.{arith}
 use lib.Bits.{bitOr, or-zero-r}
@@ -12,17 +12,17 @@ use Rattle.meaning.specs.Limits.{variableLimit}
 use Rattle.meaning.specs.Values.{bit, Has, Lacks, size}
 use Rattle.meaning.specs.Rules.{Rule, scopeOf, at}
 use Rattle.meaning.specs.Lists.{Left, Supported, Closed}
-use Rattle.meaning.proofs.Digits.{zero-bit, bit-cases, bit-lt, ext-all}
+use Rattle.meaning.proofs.Digits.{zero-bit, bit-cases, ext-all}
 use Rattle.meaning.proofs.Sizes.{size-max}
 use Rattle.meaning.proofs.Sets.{or-iff}
-use Rattle.meaning.proofs.Largest.{_⊑_, stays}
+use Rattle.meaning.proofs.Largest.{stays}
 use Rattle.meaning.proofs.Listed.{Words}
 use Rattle.values.specs.Sets.{Lowest, Dropped, Removed}
 use Rattle.state.specs.declared.spreading.Affected.{Affected}
 use Rattle.state.specs.Layout.{ruleAt, rulesAt}
-use Rattle.state.specs.Filter.{Filtered, Changed, Filtering, LargestIn, Toward, weight}
+use Rattle.state.specs.Filter.{Filtered, Filtering, Toward, weight}
 use Rattle.state.specs.Spreading.{Touching, ClosedBy, Due, AffectedBy, Spread}
-use Rattle.state.proofs.Decisions.{empty-within}
+use Rattle.state.proofs.Depths.{empty-within}
 use Rattle.state.proofs.Sweeping.{filtered-removes, changed-none, changed-some, words-below, toward-end}
 
 -- ---- closed by one rule

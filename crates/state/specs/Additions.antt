@@ -1,6 +1,6 @@
 -- What adding a rule is made of: its tests, its place behind the others, and the lists that follow.
 use mathlib.Core.Path.{_≡_}
-use mathlib.Core.List.{List, [], _∷_, _++_}
+use mathlib.Core.List.{List}
 use Prim.Native.Nat.{ℕ, _+_, _*_, _%_, _^_, _≤_, _<_}
 use lib.IntN.{ℤ}
 use lib.ListN.{length}
@@ -12,6 +12,7 @@ use Rattle.meaning.specs.Calls as Calls
 use Rattle.meaning.specs.Calls.{Call, addTable, addLinear, refusal, held, withRule}
 use Rattle.meaning.specs.Histories.{Leaves}
 use Rattle.meaning.specs.Proper.{Around}
+use Rattle.blocks.specs.Blocks.{block, blockPlaces}
 use Rattle.state.specs.declared.State.{State}
 use Rattle.state.specs.declared.Sort.{Sort}
 use Rattle.state.specs.declared.Sort.the-variants.{Allow, Forbid}
@@ -19,7 +20,7 @@ use Rattle.state.specs.Layout.{headsOf, roomOf, padded, rulesAt, AllPlac
 use Rattle.state.specs.Filter.{LargestIn}
 use Rattle.state.specs.Writing.{InRange}
 use Rattle.state.specs.Spreading.{Due}
-use Rattle.state.specs.Holds.{Holds, block, blockPlaces}
+use Rattle.state.specs.Holds.{Holds}
 
 abbrev pub sortNumber : Sort → ℕ
 sortNumber Allow = 0
@@ -85,6 +86,7 @@ Extends s r t = (h : List Call) (w : Standing) → Leaves h w → Holds s w → 
 -- the lists of depth 0 are closed by every rule but the k-th
 pub record Followable (s : State) (k : ℕ) : Type 0 where
   pub few : s .rules ≤ ruleLimit
+  pub lists : length (s .lists) ≡ blockPlaces
   pub placed : AllPlaced (s .heads) (s .room) (s .rules)
   pub due : Due (s .heads) (s .room) (s .rules) (block (s .lists) 0 variableLimit) (2 ^ k)
   pub known : k < ruleLimit

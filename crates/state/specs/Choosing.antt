@@ -22,10 +22,11 @@ pub record FirstOpen (L : List ℕ) (n x : ℕ) : Type 0 where
   pub settled : Settled L x
   pub several : x < n → 1 < size (getD L x 0)
 
--- the lowest value of each of the first n lists
+-- the lowest value of each of the first n lists, and 0 past them
 pub record Lows (L : List ℕ) (n : ℕ) (lows : List ℕ) : Type 0 where
   pub long : length lows ≡ variableLimit
   pub lowest : (x : ℕ) → x < n → Lowest (getD L x 0) (getD lows x 0)
+  pub past : (x : ℕ) → n ≤ x → getD lows x 0 ≡ 0
 
 -- r says whether one of the first n lists is empty
 pub record TellsEmpty (L : List ℕ) (n : ℕ) (r : Bool) : Type 0 where

@@ -2,31 +2,20 @@
 use mathlib.Core.Path.{_≡_}
 use mathlib.Core.Logic.{_⊎_}
 use mathlib.Core.List.{List}
-use Prim.Native.Nat.{ℕ, _+_, _-_, _*_, _≤_, _<_}
-use lib.ListN.{length, getD, take, drop, replicate}
-use lib.Seq.{paste}
-use Rattle.meaning.specs.Limits.{variableLimit, ruleLimit, roomLimit, objectiveLimit, decisionLimit}
+use Prim.Native.Nat.{ℕ, _+_, _*_, _≤_, _<_}
+use lib.ListN.{length, getD, take}
+use Rattle.meaning.specs.Limits.{variableLimit, ruleLimit, roomLimit, objectiveLimit}
 use Rattle.meaning.specs.Standing.{Standing}
 use Rattle.meaning.specs.Lists.{Largest}
 use Rattle.meaning.specs.Calls.{Call, held, withDecisions}
 use Rattle.meaning.specs.Histories.{Leaves}
+use Rattle.blocks.specs.Blocks.{block, blockPlaces}
 use Rattle.state.specs.declared.State.{State}
 use Rattle.state.specs.Layout.{headsOf, roomOf, padded}
 
 -- what stood after the first k decisions; a newly named objective vector stays
 abbrev pub upTo : Standing → ℕ → Standing
 upTo w k = withDecisions w (take k (w .decisions))
-
--- the lists of n variables after k decisions
-abbrev pub block : List ℕ → ℕ → ℕ → List ℕ
-block lists k n = take n (drop (variableLimit * k) lists)
-
-abbrev pub blockPlaces : ℕ
-blockPlaces = variableLimit * (decisionLimit + 1)
-
--- the lists with zeros from a place on
-abbrev pub zeroedFrom : List ℕ → ℕ → List ℕ
-zeroedFrom lists i = paste lists i (replicate (blockPlaces - i) 0) (blockPlaces - i)
 
 pub record HoldsLists (lists : List ℕ) (w : Standing) : Type 0 where
   pub long : length lists ≡ blockPlaces
@@ -48,3 +37,7 @@ pub record Holds (s : State) (w : Standing) : Type 0 where
 -- the state is one that calls on a new state have left
 abbrev pub Reached : State → Type 0
 Reached s = (h : List Call) × (w : Standing) × Leaves h w × Holds s w
+
+-- the rules are those of such a state
+abbrev pub RulesOf : List ℕ → List ℕ → ℕ → Type 0
+RulesOf heads room rules = (s : State) × Reached s × (s .heads ≡ heads) × (s .room ≡ room) × (s .rules ≡ rules)

@@ -4,12 +4,11 @@ pub mod Tables
 pub mod Sifting
 pub mod Linear
 pub mod Spreading
+pub mod Holds
 pub mod Search
 pub mod Thresholds
 pub mod Choosing
 pub mod Writing
-pub mod Holds
 pub mod Promises
 pub mod Additions
 pub mod Runs
-pub mod Solving

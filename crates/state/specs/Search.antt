@@ -1,15 +1,19 @@
 -- The search: assignments within lists that meet every rule and reach the thresholds, and the first of them.
 use mathlib.Core.Path.{_≡_}
 use mathlib.Core.Bool.{Bool, true, false}
+use mathlib.Core.Logic.{_⊎_}
 use mathlib.Core.List.{List, List·Memᴰ}
 use Prim.Native.Nat.{ℕ, _≤_, _<_}
-use lib.ListN.{length, getD, take}
+use lib.ListN.{length, getD, take, replicate}
 use Rattle.meaning.specs.Limits.{variableLimit, ruleLimit, roomLimit, objectiveLimit}
 use Rattle.meaning.specs.Rules.{Rule, scopeOf, Satisfies, at, valuesAt}
 use Rattle.meaning.specs.Order.{_≺_}
 use Rattle.meaning.specs.Lists.{Left, Closed}
 use Rattle.meaning.proofs.Greedy.{Reaches}
+use Rattle.blocks.specs.Blocks.{block}
+use Rattle.state.specs.declared.State.{State}
 use Rattle.state.specs.Layout.{AllPlaced, rulesAt}
+use Rattle.state.specs.Holds.{Reached}
 use Rattle.state.specs.Spreading.{Touching}
 
 -- a gives each of n variables a value left to it, meets every rule, and its objectives reach the thresholds y
@@ -24,10 +28,32 @@ pub record FirstOf (P : List ℕ → Type 0) (a : List ℕ) : Type 0 where
   pub holds : P a
   pub first : (b : List ℕ) → P b → ¬ (b ≺ a)
 
+-- every place past the first n is 0, and every place where nothing is found
+pub record Blank (n : ℕ) (found : Bool) (out : List ℕ) : Type 0 where
+  pub long : length out ≡ variableLimit
+  pub past : (x : ℕ) → (found ≡ false) ⊎ (n ≤ x) → getD out x 0 ≡ 0
+
 -- what a search within the lists L answers
 pub record Searched (rules : List Rule) (objectives y : List ℕ) (n : ℕ) (L : List ℕ) (found : Bool) (out : List ℕ) : Type 0 where
+  pub blank : Blank n found out
   pub first : found ≡ true → FirstOf (Meets rules objectives y n L) (take n out)
   pub none : found ≡ false → (a : List ℕ) → ¬ Meets rules objectives y n L a
+
+-- nothing is found
+abbrev pub Nothing : Bool → List ℕ → Type 0
+Nothing found out = (found ≡ false) × (out ≡ replicate variableLimit 0)
+
+-- the rules, objectives and variables are those of a state that calls on a new state have left, and the lists those after its decisions
+pub record Given (hs cells : List ℕ) (k : ℕ) (names : List ℕ) (count n : ℕ) (L : List ℕ) : Type 0 where
+  pub state : State
+  pub reached : Reached state
+  pub heads : state .heads ≡ hs
+  pub room : state .room ≡ cells
+  pub rules : state .rules ≡ k
+  pub objective : state .objective ≡ names
+  pub objectives : state .objectives ≡ count
+  pub variables : state .variables ≡ n
+  pub lists : L ≡ block (state .lists) (state .depth) variableLimit
 
 -- lists that a search goes on from: closed, none empty, and the greatest values left reach the thresholds
 pub record Live (rules : List Rule) (objectives y : List ℕ) (n : ℕ) (L : List ℕ) : Type 0 where

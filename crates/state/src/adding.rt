@@ -16,8 +16,6 @@ use crate::Answer;
 use crate::Refusal;
 use crate::Sort;
 use crate::State;
-use crate::blocks::lists_after;
-use crate::blocks::put_lists;
 use crate::refused;
 use crate::spreading::rules_on;
 use crate::spreading::spread;
@@ -31,6 +29,8 @@ use arguments::any_twice;
 use arguments::any_unknown;
 use arguments::beyond_bound;
 use arguments::tuple_twice;
+use blocks::lists_after;
+use blocks::put_lists;
 
 // One table more: its variables, and its tuples' values one after the other.
 pub fn add_table(s: State, sort: Sort, scope: &[u8], cells: &[u8]) -> AfterCall
@@ -228,7 +228,7 @@ fn followed(s: State, k: usize) -> State
         false,
         &mut left,
     );
-    put_lists(&mut t.lists, 0, &left);
+    put_lists(&mut t.lists, 0, left);
     t
 }
 

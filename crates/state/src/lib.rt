@@ -7,14 +7,11 @@ ghost use Rattle.state.specs.Promises.{Answers, numberOf};
 
 mod adding;
 mod allowed;
-mod blocks;
-mod deciding;
 mod forbidden;
 mod linear;
 mod lists;
 mod nodes;
 mod search;
-mod solving;
 mod spreading;
 mod sweeps;
 mod tables;
@@ -24,27 +21,25 @@ mod writing;
 pub use adding::add_linear;
 pub use adding::add_table;
 pub use adding::name_objectives;
-pub use deciding::ban;
-pub use deciding::pin;
-pub use deciding::take_back;
-pub use deciding::values_left;
-pub use solving::solve;
+pub use search::Rota;
+pub use search::first_reaching;
+pub use sweeps::settled;
 
 // What stands, laid out in flat arrays: counts, and zeros past them.
 pub struct State {
-    variables: usize,
+    pub variables: usize,
     // a set of values for each variable
-    declared: [u64; 32],
-    rules: usize,
+    pub declared: [u64; 32],
+    pub rules: usize,
     // four numbers for each rule: its sort, arity, start in the room, and number of tuples or bound
-    heads: [u32; 192],
-    used: usize,
-    room: [u16; 4096],
-    objectives: usize,
-    objective: [u8; 16],
-    depth: usize,
+    pub heads: [u32; 192],
+    pub used: usize,
+    pub room: [u16; 4096],
+    pub objectives: usize,
+    pub objective: [u8; 16],
+    pub depth: usize,
     // 33 blocks of 32 sets: the values left after 0, 1, .. decisions
-    lists: [u64; 1056],
+    pub lists: [u64; 1056],
 }
 
 // Document 01's table of refusals.
@@ -72,30 +67,6 @@ pub enum Answer {
 pub enum Sort {
     Allow,
     Forbid,
-}
-
-// What a pin or a ban answers.
-pub enum DecisionAnswer {
-    Accepted,
-    Refused(Refusal),
-}
-
-// What a question for the values left answers.
-pub enum Left {
-    Values(u64),
-    Refused(Refusal),
-}
-
-// What solving answers.
-pub enum Solved {
-    Found,
-    Inconsistent,
-    Refused(Refusal),
-}
-
-pub struct AfterDecision {
-    pub answer: DecisionAnswer,
-    pub state: State,
 }
 
 pub struct AfterCall {

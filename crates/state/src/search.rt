@@ -8,14 +8,15 @@ ghost use Rattle.meaning.specs.Limits.{variableLimit, objectiveLimit};
 ghost use Rattle.meaning.specs.Lists.{Closed};
 ghost use Rattle.values.specs.Sets.{Lowest};
 ghost use Rattle.state.specs.Layout.{rulesAt};
-ghost use Rattle.state.specs.Search.{Net, Searched};
+ghost use Rattle.state.specs.Search.{Net, Given, Searched, Nothing};
 ghost use Rattle.state.specs.Choosing.{FirstOpen, Lows, TellsEmpty, Choosable, Narrowable};
 use crate::nodes::narrow;
+use crate::spreading::rules_on;
 
-// A value for each variable, where such were found.
-pub(crate) struct Rota {
-    pub(crate) found: bool,
-    pub(crate) values: [u8; 32],
+// A value for each variable, where such were found; later places are 0.
+pub struct Rota {
+    pub found: bool,
+    pub values: [u8; 32],
 }
 
 // The lowest open variable, one with more than one value left; n where there is none.
@@ -67,7 +68,7 @@ fn any_empty(lists: &[u64], n: usize) -> bool
 
 // The answer where there is no rota.
 fn none() -> Rota
-    ensures { λ r. ⌜ r .found ≡ false ⌝ }
+    ensures { λ r. ⌜ Nothing (r .found) (r .values) ⌝ }
 {
     Rota {
         found: false,
@@ -164,7 +165,7 @@ fn try_value<'a>(
 }
 
 // The first rota within closed lists that meets every rule and reaches the thresholds.
-pub(crate) fn first_within<'a>(
+fn first_within<'a>(
     heads: &'a [u32],
     room: &'a [u16],
     rules: usize,
@@ -198,4 +199,22 @@ pub(crate) fn first_within<'a>(
         return choose(heads, room, rules, sets, goals, count, floors, n, left);
     }
     none()
+}
+
+// The first rota of what stands in a state whose objectives reach the thresholds.
+pub fn first_reaching<'a>(
+    heads: &'a [u32],
+    room: &'a [u16],
+    rules: usize,
+    goals: &[u8],
+    count: usize,
+    n: usize,
+    lists: [u64; 32],
+    floors: [u8; 16],
+) -> Rota
+    requires { ⌜ Given (now heads) (now room) rules (now goals) count n lists ⌝ }
+    ensures { λ r. ⌜ Searched (rulesAt (now (heads .entry)) (now (room .entry)) rules) (take count (now (goals .entry))) (take count floors) n lists (r .found) (r .values) ⌝ }
+{
+    let sets = rules_on(heads, room, rules);
+    first_within(heads, room, rules, &sets, goals, count, &floors, n, lists)
 }

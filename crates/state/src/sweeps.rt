@@ -4,6 +4,7 @@ ghost use lib.ListN.{length};
 ghost use Rattle.meaning.specs.Limits.{variableLimit, roomLimit};
 ghost use Rattle.state.specs.Layout.{Placed, AllPlaced, ruleAt, rulesAt};
 ghost use Rattle.state.specs.Filter.{Filtering, Sweeping, LargestIn};
+ghost use Rattle.state.specs.Holds.{RulesOf};
 use crate::allowed;
 use crate::forbidden;
 use crate::linear::filter_linear;
@@ -41,14 +42,15 @@ fn sweep(heads: &[u32], room: &[u16], rules: usize, lists: &mut [u64]) -> u64
     changed
 }
 
-// Sweeps until one drops nothing: what is left are the largest closed lists within those given.
-pub(crate) fn settle<'a>(heads: &'a [u32], room: &'a [u16], rules: usize, lists: &mut [u64])
-    requires { ⌜ AllPlaced (now heads) (now room) rules ⌝ }
-    requires { ⌜ (length (now room) ≡ roomLimit) × (length (now lists) ≡ variableLimit) ⌝ }
-    ensures { λ r. ⌜ LargestIn (rulesAt (now (heads .entry)) (now (room .entry)) rules) (now (lists .entry)) (now (lists .exit)) ⌝ }
+// Sweeps over the rules of a state until one drops nothing: the largest closed lists within those given.
+pub fn settled<'a>(heads: &'a [u32], room: &'a [u16], rules: usize, lists: [u64; 32]) -> [u64; 32]
+    requires { ⌜ RulesOf (now heads) (now room) rules ⌝ }
+    ensures { λ r. ⌜ LargestIn (rulesAt (now (heads .entry)) (now (room .entry)) rules) lists r ⌝ }
 {
+    let mut left = lists;
     let mut changed: u64 = 1;
     while changed != 0 {
-        changed = sweep(heads, room, rules, lists);
+        changed = sweep(heads, room, rules, &mut left);
     }
+    left
 }

@@ -1,15 +1,16 @@
 -- One value: in a set or not, alone, taken away and put in. Assumes nothing.
-use mathlib.Core.Path.{_≡_, refl, ap, _∙_}
+use mathlib.Core.Path.{_≡_, refl, sym, ap, _∙_}
+use mathlib.Core.Logic.{by-cases}
 use Prim.Native.Nat.{ℕ, _+_, _*_, _/_, _%_, _^_, _≤_, _<_}
 use native.Mathlib.Nat.{one-mul, mod-eq-of-lt}
 use native.Mathlib.Omega.{arith}
-use native.Mathlib.Decide.{decLt}
+use native.Mathlib.Decide.{ℕ-discrete, decLt}
 use borrow.Author.Tests.{ltb-true, eqb-true, eqb-false}
 use lib.Dec.{ltb, eqb}
 use lib.Pow.{pow-lt}
 use lib.Bits.{bitAnd, bitOr, and-mask, or-zero-r}
 use Rattle.meaning.specs.Values.{bit, Has, Lacks, size}
-use Rattle.meaning.proofs.Digits.{bit-lt, bit-high, zero-bit, bit-or, bit-pow-same, bit-pow-other}
+use Rattle.meaning.proofs.Digits.{bit-lt, bit-high, zero-bit, bit-or, bit-pow-same, bit-pow-other, ext-all}
 use Rattle.meaning.proofs.Sets.{size-alone, size-change}
 use Rattle.values.specs.Sets.{Tells, Alone, Removed, Added, Less}
 
@@ -44,6 +45,10 @@ alone-pow v l = record {
   one = λ k. size-alone (2 ^ v) v l (bit-pow-same v) (bit-pow-other v);
   empty = λ k. absurd (omega arith);
 }
+
+-- there is one such set
+pub alone-is : (v r : ℕ) → v < 64 → Alone v r → r ≡ 2 ^ v
+alone-is v r small a = ext-all r (2 ^ v) λ w. by-cases (ℕ-discrete w v) (λ e. rw e (a .here small ∙ sym (bit-pow-same v))) (λ n. a .others w n ∙ sym (bit-pow-other v w n))
 
 pub alone-shift : (v : ℕ) → v < 64 → Alone v ((1 * 2 ^ v) % 2 ^ 64)
 alone-shift v l = rw (shl-one v l) (alone-pow v l)

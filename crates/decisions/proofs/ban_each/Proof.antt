@@ -9,7 +9,7 @@ use Rattle.decisions.proofs.ban_each.Tie as tie
 use Rattle.decisions.proofs.ban_each.Reads as reads
 use Rattle.decisions.proofs.ban_each.Lts as lts
 use Rattle.decisions.proofs.letter.Reads as letter-reads
-use Rattle.state.proofs.ban.Reads as ban-reads
+use Rattle.decide.proofs.ban.Reads as ban-reads
 
 abbrev Inv-loop : tie.InvT-loop
 Inv-loop state₀ letters₀ v₀ state letters v = Reached state × (v ≤ 33)

@@ -4,9 +4,10 @@ use mathlib.Core.List.{[], _∷_}
 use mir.Syntax.{w8}
 use Rattle.meaning.specs.Calls.{ban}
 use Rattle.state.specs.Holds.{Reached}
-use Rattle.state.specs.Promises.{Answers, decisionNumber}
-use Rattle.state.proofs.ban.Symbol as callee
-use Rattle.state.proofs.ban.Met as promised
+use Rattle.state.specs.Promises.{Answers}
+use Rattle.decide.specs.Decisions.{decisionNumber}
+use Rattle.decide.proofs.ban.Symbol as callee
+use Rattle.decide.proofs.ban.Met as promised
 use Rattle.desk.proofs.Lent.{meets-in}
 use Rattle.desk.proofs.Answering.{decision}
 use Rattle.desk.proofs.ban.Key as self

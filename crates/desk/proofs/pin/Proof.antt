@@ -4,9 +4,10 @@ use mathlib.Core.List.{[], _∷_}
 use mir.Syntax.{w8}
 use Rattle.meaning.specs.Calls.{pin}
 use Rattle.state.specs.Holds.{Reached}
-use Rattle.state.specs.Promises.{Answers, decisionNumber}
-use Rattle.state.proofs.pin.Symbol as callee
-use Rattle.state.proofs.pin.Met as promised
+use Rattle.state.specs.Promises.{Answers}
+use Rattle.decide.specs.Decisions.{decisionNumber}
+use Rattle.decide.proofs.pin.Symbol as callee
+use Rattle.decide.proofs.pin.Met as promised
 use Rattle.desk.proofs.Lent.{meets-in}
 use Rattle.desk.proofs.Answering.{decision}
 use Rattle.desk.proofs.pin.Key as self

@@ -5,8 +5,8 @@ use mir.Syntax.{w64}
 use Rattle.meaning.specs.Calls.{takeBack}
 use Rattle.state.specs.Holds.{Reached}
 use Rattle.state.specs.Promises.{Answers, numberOf}
-use Rattle.state.proofs.take_back.Symbol as callee
-use Rattle.state.proofs.take_back.Met as promised
+use Rattle.decide.proofs.take_back.Symbol as callee
+use Rattle.decide.proofs.take_back.Met as promised
 use Rattle.desk.proofs.Lent.{meets-in}
 use Rattle.desk.proofs.Answering.{take-back}
 use Rattle.desk.proofs.take_back.Key as self

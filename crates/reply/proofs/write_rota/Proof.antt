@@ -5,7 +5,7 @@ use borrow.Author.Needs.{needs}
 use mir.Syntax.{w8}
 use lib.ListN.{length}
 use lib.Seq.{length-take-le}
-use Rattle.state.proofs.Arrays.{array-length}
+use Rattle.blocks.proofs.Arrays.{array-length}
 use Rattle.reply.proofs.Telling.{rota-lines}
 use Rattle.reply.proofs.write_rota.Statement.{statement}
 use Rattle.reply.proofs.write_rota.Tie as tie

@@ -1,9 +1,11 @@
 -- `state::search::lows_of` meets its contract. Assumes nothing.
 use Prim.Native.Nat.{_-_, _≤_}
-use mathlib.Core.Path.{refl}
+use mathlib.Core.Path.{refl, _∙_}
 use native.Mathlib.Omega.{arith}
 use lib.ListN.{getD}
+use lib.Seq.{getD-set-other}
 use Rattle.values.specs.Sets.{Lowest}
+use Rattle.blocks.proofs.Copying.{zeros-at}
 use Rattle.state.specs.Choosing.{Lows}
 use Rattle.state.proofs.Filling.{filled-more}
 use borrow.Author.Needs.{needs}
@@ -17,7 +19,7 @@ abbrev μ-loop : tie.MeasureT-loop
 μ-loop lists n lows₀ x₀ lows x = n - x
 
 loop-holds : tie.Need-loop-holds Inv-loop μ-loop
-loop-holds c = (search needs, record { long = search needs; lowest = λ y h. absurd (omega arith) })
+loop-holds c = (search needs, record { long = search needs; lowest = λ y h. absurd (omega arith); past = λ y h. zeros-at 32 y })
 
 mul-lowest : tie.Need-mul-lowest Inv-loop μ-loop
 mul-lowest c = search needs
@@ -48,11 +50,12 @@ loop-again c =
       record {
         long = search needs;
         lowest = filled-more (λ y v. Lowest (getD L y 0) v) (at .lows) (at .x) (c .lowest .result) (search needs) (at .inv .1 .lowest) (c .lowest .ensures);
+        past = λ y h. getD-set-other (at .lows) (at .x) y (c .lowest .result) 0 (omega arith) ∙ at .inv .1 .past y (omega arith);
       },
     )
 
 returns : tie.Need-returns Inv-loop μ-loop
-returns c = (refl, record { long = c .before .loop .inv .1 .long; lowest = λ y h. c .before .loop .inv .1 .lowest y (omega arith) })
+returns c = (refl, record { long = c .before .loop .inv .1 .long; lowest = λ y h. c .before .loop .inv .1 .lowest y (omega arith); past = λ y h. c .before .loop .inv .1 .past y (omega arith) })
 
 pub lows-of-spec : {M : Type 1} → statement M
 lows-of-spec =

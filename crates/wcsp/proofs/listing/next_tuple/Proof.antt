@@ -5,7 +5,7 @@ use native.Mathlib.Omega.{arith}
 use lib.ListN.{length, take}
 use lib.Seq.{length-take-le}
 use mir.Syntax.{w8}
-use Rattle.state.proofs.Arrays.{array-length}
+use Rattle.blocks.proofs.Arrays.{array-length}
 use Rattle.state.proofs.Testing.{far-first, far-then, near-both}
 use Rattle.wcsp.specs.Files.{sameSaid}
 use Rattle.wcsp.proofs.Keying.{keyed-behind, keyed-faults}

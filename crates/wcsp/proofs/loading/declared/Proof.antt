@@ -10,7 +10,7 @@ use lib.ListN.{length, getD, take}
 use lib.Seq.{take-suc}
 use Rattle.state.specs.Runs.{Run}
 use Rattle.state.proofs.Runs.{run-reached}
-use Rattle.state.proofs.Arrays.{array-length}
+use Rattle.blocks.proofs.Arrays.{array-length}
 use Rattle.wcsp.specs.Files.{variableCalls}
 use Rattle.wcsp.proofs.Adding.{variable-runs, no-calls}
 use Rattle.wcsp.proofs.loading.declared.Statement.{statement}

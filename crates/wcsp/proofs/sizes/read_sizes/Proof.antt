@@ -1,7 +1,7 @@
 -- `wcsp::sizes::read_sizes` meets its contract. The loop: the first i sizes are read. Assumes nothing.
 use Rattle.wcsp.proofs.Several.{zero-set, zeros-behind}
 use lib.ListN.{getD}
-use Rattle.state.proofs.Padding.{zeros-at}
+use Rattle.blocks.proofs.Copying.{zeros-at}
 use mathlib.Core.Path.{ap}
 use Prim.Native.Nat.{ℕ}
 use mathlib.Core.Path.{_≡_, refl, _∙_}

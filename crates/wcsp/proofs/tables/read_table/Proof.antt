@@ -6,7 +6,7 @@ use Rattle.wcsp.proofs.Coming.{number-is}
 use Rattle.wcsp.proofs.Judging.{in-range, tests-passed}
 use Rattle.wcsp.proofs.Tabling.{no-arity, no-scope, no-default, no-count, the-table, room-holds}
 use mir.Syntax.{w8}
-use Rattle.state.proofs.Arrays.{array-length}
+use Rattle.blocks.proofs.Arrays.{array-length}
 use borrow.Author.Needs.{needs}
 use Rattle.wcsp.proofs.tables.read_table.Statement.{statement}
 use Rattle.wcsp.proofs.tables.read_table.Tie as tie

@@ -1,0 +1,29 @@
+-- The blocks of lists: 32 places for each number of decisions from 0 to 32.
+use mathlib.Core.Path.{_≡_}
+use mathlib.Core.Bool.{cond}
+use mathlib.Core.List.{List}
+use Prim.Native.Nat.{ℕ, _+_, _-_, _*_}
+use lib.Dec.{leb}
+use lib.ListN.{length, getD, take, drop, replicate}
+use lib.Seq.{paste}
+use Rattle.meaning.specs.Limits.{variableLimit, decisionLimit}
+
+-- the lists of n variables after k decisions
+abbrev pub block : List ℕ → ℕ → ℕ → List ℕ
+block lists k n = take n (drop (variableLimit * k) lists)
+
+abbrev pub blockPlaces : ℕ
+blockPlaces = variableLimit * (decisionLimit + 1)
+
+-- r has the lists after k decisions, and 0 where there is no such place
+pub record Copied (lists : List ℕ) (k : ℕ) (r : List ℕ) : Type 0 where
+  pub long : length r ≡ variableLimit
+  pub each : (x : ℕ) → getD r x 0 ≡ getD (block lists k variableLimit) x 0
+
+-- the lists with `left` after k decisions
+abbrev pub withBlock : List ℕ → ℕ → List ℕ → List ℕ
+withBlock lists k left = cond (leb k decisionLimit) (paste lists (variableLimit * k) left variableLimit) lists
+
+-- the lists with zeros from a place on
+abbrev pub zeroedFrom : List ℕ → ℕ → List ℕ
+zeroedFrom lists i = paste lists i (replicate (blockPlaces - i) 0) (blockPlaces - i)

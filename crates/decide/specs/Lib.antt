@@ -1,0 +1,2 @@
+-- The definitions that the contracts of `decide` cite.
+pub mod Decisions

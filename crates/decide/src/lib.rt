@@ -1,0 +1,145 @@
+// Pins, bans, taking back, and the values left.
+ghost use mathlib.Core.Path.{_≡_};
+ghost use Prim.Native.Nat.{_<_, _≤_};
+ghost use lib.ListN.{length};
+ghost use Rattle.meaning.specs.Limits.{decisionLimit};
+ghost use Rattle.meaning.specs.Calls.{pin, ban, takeBack};
+ghost use Rattle.blocks.specs.Blocks.{blockPlaces};
+ghost use Rattle.state.specs.Holds.{Reached};
+ghost use Rattle.state.specs.Promises.{Answers, numberOf};
+ghost use Rattle.decide.specs.Decisions.{Tested, Narrowed, TellsLeft, decisionNumber};
+use blocks::clear_after;
+use blocks::list_of;
+use blocks::lists_after;
+use blocks::put_lists;
+use state::AfterCall;
+use state::Answer;
+use state::Refusal;
+use state::State;
+use state::settled;
+
+// What a pin or a ban answers.
+pub enum DecisionAnswer {
+    Accepted,
+    Refused(Refusal),
+}
+
+pub struct AfterDecision {
+    pub answer: DecisionAnswer,
+    pub state: State,
+}
+
+// What a question for the values left answers.
+pub enum Left {
+    Values(u64),
+    Refused(Refusal),
+}
+
+// Keeps the value v of the variable x alone.
+pub fn pin(s: State, x: u8, v: u8) -> AfterDecision
+    requires { ⌜ Reached s ⌝ }
+    ensures { λ r. ⌜ Answers s (pin x v) (decisionNumber (r .answer)) (r .state) ⌝ }
+{
+    let at = x as usize;
+    let value = v as usize;
+    let answer = tested(s.variables, s.depth, &s.lists, at, value);
+    match answer {
+        DecisionAnswer::Accepted => AfterDecision {
+            answer,
+            state: narrowed(s, at, values::only(value)),
+        },
+        DecisionAnswer::Refused(_) => AfterDecision { answer, state: s },
+    }
+}
+
+// Removes the value v of the variable x.
+pub fn ban(s: State, x: u8, v: u8) -> AfterDecision
+    requires { ⌜ Reached s ⌝ }
+    ensures { λ r. ⌜ Answers s (ban x v) (decisionNumber (r .answer)) (r .state) ⌝ }
+{
+    let at = x as usize;
+    let value = v as usize;
+    let answer = tested(s.variables, s.depth, &s.lists, at, value);
+    match answer {
+        DecisionAnswer::Accepted => {
+            let left = list_of(&s.lists, s.depth, at);
+            AfterDecision {
+                answer,
+                state: narrowed(s, at, values::without(left, value)),
+            }
+        }
+        DecisionAnswer::Refused(_) => AfterDecision { answer, state: s },
+    }
+}
+
+// The tests of a pin or a ban, in document 01's order.
+fn tested(variables: usize, depth: usize, lists: &[u64; 1056], x: usize, v: usize) -> DecisionAnswer
+    requires { ⌜ (length (now lists) ≡ blockPlaces) × (depth ≤ decisionLimit) × (variables ≤ 32) ⌝ }
+    ensures { λ r. ⌜ Tested variables depth (now (lists .entry)) x v (decisionNumber r) ⌝ }
+{
+    if variables <= x {
+        return DecisionAnswer::Refused(Refusal::NoSuchVariable);
+    }
+    if 64 <= v {
+        return DecisionAnswer::Refused(Refusal::OutOfRange);
+    }
+    if 32 <= depth {
+        return DecisionAnswer::Refused(Refusal::TooManyDecisions);
+    }
+    if values::has(list_of(lists, depth, x), v) {
+        return DecisionAnswer::Accepted;
+    }
+    DecisionAnswer::Refused(Refusal::NotLeft)
+}
+
+// One decision more: x's list becomes `kept`, and the others follow.
+fn narrowed(s: State, x: usize, kept: u64) -> State
+    requires { ⌜ Reached s ⌝ }
+    requires { ⌜ (x < s .variables) × (s .depth < decisionLimit) ⌝ }
+    ensures { λ r. ⌜ Narrowed s x kept r ⌝ }
+{
+    let mut t = s;
+    let depth = t.depth;
+    let rules = t.rules;
+    let mut left = lists_after(&t.lists, depth);
+    left[x] = kept;
+    let after = settled(&t.heads, &t.room, rules, left);
+    put_lists(&mut t.lists, depth + 1, after);
+    t.depth = depth + 1;
+    t
+}
+
+// Keeps the first k decisions and drops the later ones.
+pub fn take_back(s: State, k: usize) -> AfterCall
+    requires { ⌜ Reached s ⌝ }
+    ensures { λ r. ⌜ Answers s (takeBack k) (numberOf (r .answer)) (r .state) ⌝ }
+{
+    let mut t = s;
+    let depth = t.depth;
+    if depth < k {
+        return AfterCall {
+            answer: Answer::Refused(Refusal::TooDeep),
+            state: t,
+        };
+    }
+    clear_after(&mut t.lists, k);
+    t.depth = k;
+    AfterCall {
+        answer: Answer::Accepted,
+        state: t,
+    }
+}
+
+// The values left to the variable x.
+pub fn values_left(s: State, x: u8) -> Left
+    requires { ⌜ Reached s ⌝ }
+    ensures { λ r. ⌜ TellsLeft s x r ⌝ }
+{
+    let at = x as usize;
+    let n = s.variables;
+    let depth = s.depth;
+    if n <= at {
+        return Left::Refused(Refusal::NoSuchVariable);
+    }
+    Left::Values(list_of(&s.lists, depth, at))
+}

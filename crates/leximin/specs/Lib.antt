@@ -1,0 +1,2 @@
+-- The definitions that the contracts of `leximin` cite.
+pub mod Solving
