@@ -78,7 +78,7 @@ pub(crate) fn variable_added(s: State, marks: u64) -> After
     requires { ⌜ Reached s ⌝ }
     ensures { λ r. ⌜ Reached (r .state) ⌝ }
 {
-    let after = state::add_variable(s, marks);
+    let after = setup::add_variable(s, marks);
     let answer = after.answer;
     let state = after.state;
     After {
@@ -167,7 +167,7 @@ pub(crate) fn objectives_named(s: State, call: Call) -> After
 {
     let scope = call.scope;
     let arity = at_most(call.arity, SHORT);
-    let after = state::name_objectives(s, &scope[..arity]);
+    let after = setup::name_objectives(s, &scope[..arity]);
     let answer = after.answer;
     let state = after.state;
     After {

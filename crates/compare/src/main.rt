@@ -187,7 +187,7 @@ fn is_solved_at(network: u64, step: usize) -> bool {
 
 // All calls of a network, on both sides.
 fn compare_network(network: u64, counts: [u64; KINDS]) -> [u64; KINDS] {
-    let state = state::new();
+    let state = setup::new();
     let record = second::empty();
     let mut run = Run {
         state,

@@ -1,12 +1,13 @@
 -- Demand 1 for pins, bans, taking back and the values left: two results that a public contract allows are equal. Assumes nothing.
 use mathlib.Core.Path.{_≡_, refl, sym, ap, _∙_}
 use Prim.Native.Nat.{ℕ}
-use Rattle.meaning.specs.Calls.{Call}
+use Rattle.meaning.specs.Calls.{Call, takeBack}
 use Rattle.state.specs.declared.State.{State}
+use Rattle.state.specs.declared.Answer.{Answer}
 use Rattle.state.specs.Holds.{Reached}
-use Rattle.state.specs.Promises.{Answers}
+use Rattle.state.specs.Promises.{Answers, numberOf}
 use Rattle.state.proofs.Holding.{current}
-use Rattle.state.proofs.Unique.{same-refusal, not-accepted, call-unique}
+use Rattle.state.proofs.Unique.{same-refusal, not-accepted, call-unique, answers-unique}
 use Rattle.decide.specs.declared.DecisionAnswer.{DecisionAnswer}
 use Rattle.decide.specs.declared.DecisionAnswer.the-variants as DecisionAnswers
 use Rattle.decide.specs.declared.Left.{Left}
@@ -28,6 +29,9 @@ left-unique (Lefts.Refused r) (Lefts.Refused q) e f = ap Lefts.Refused (same-ref
 module _ {s : State} (reached : Reached s) where
   pub decisions-unique : (c : Call) {a b : DecisionAnswer} {t u : State} → Answers s c (decisionNumber a) t → Answers s c (decisionNumber b) u → (a ≡ b) × (t ≡ u)
   decisions-unique c {a} {b} x y = let (e, f) = call-unique reached c x y in (decision-unique a b e, f)
+
+  pub take-back-unique : (k : ℕ) {a b : Answer} {t u : State} → Answers s (takeBack k) (numberOf a) t → Answers s (takeBack k) (numberOf b) u → (a ≡ b) × (t ≡ u)
+  take-back-unique k = answers-unique reached (takeBack k)
 
   pub values-left-unique : (x : ℕ) (a b : Left) → TellsLeft s x a → TellsLeft s x b → a ≡ b
   values-left-unique x a b p q =

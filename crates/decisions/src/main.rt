@@ -44,7 +44,7 @@ fn ban_each(s: State) -> Banned
 }
 
 fn main() {
-    let started = state::add_variable(state::new(), 0xffff_ffff_ffff_ffff);
+    let started = setup::add_variable(setup::new(), 0xffff_ffff_ffff_ffff);
     let banned = ban_each(started.state);
     let back = decide::take_back(banned.state, 31);
     let again = decide::ban(back.state, 0, 63);

@@ -26,7 +26,7 @@ pub(crate) fn add_variable(desk: Desk, line: &[u8], at: usize) -> Desk
     if !mask.fits {
         return stopped(desk);
     }
-    let after = state::add_variable(desk.state, mask.value);
+    let after = setup::add_variable(desk.state, mask.value);
     let answer = after.answer;
     let state = after.state;
     saying::answered(answer);
@@ -126,7 +126,7 @@ fn objectives_named(desk: Desk, variables: &[u8]) -> Desk
     requires { ⌜ Reached (desk .state) ⌝ }
     ensures { λ r. ⌜ Reached (r .state) ⌝ }
 {
-    let after = state::name_objectives(desk.state, variables);
+    let after = setup::name_objectives(desk.state, variables);
     let answer = after.answer;
     saying::answered(answer);
     with_state(desk, after.state)

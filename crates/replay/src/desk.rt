@@ -18,7 +18,7 @@ pub(crate) struct Desk {
 pub(crate) fn new() -> Desk
     ensures { λ r. ⌜ Reached (r .state) ⌝ }
 {
-    let state = state::new();
+    let state = setup::new();
     Desk {
         state,
         variables: 0,

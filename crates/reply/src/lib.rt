@@ -44,7 +44,7 @@ fn write_solved(state: State, n: usize, out: &mut [u8; LINES]) -> usize
 {
     let first: [u8; OBJECTIVES] = [0, 1, 2, 3, 4, 5, 6, 7, 8, 9, 10, 11, 12, 13, 14, 15];
     let count = objective_count(n);
-    let named = state::name_objectives(state, &first[..count]);
+    let named = setup::name_objectives(state, &first[..count]);
     let ready = named.state;
     let mut values = [0u8; VARIABLES];
     let solved = leximin::solve(ready, &mut values);

@@ -39,7 +39,6 @@ pub mod Trying
 pub mod Choosing
 pub mod Testing
 pub mod Extending
-pub mod Naming
 pub mod NewLinear
 pub mod Runs
 pub mod Taking

@@ -1,4 +1,4 @@
-// Adding tables and linear rules, and naming the objectives.
+// Adding tables and linear rules.
 ghost use mathlib.Core.Path.{_≡_};
 ghost use mathlib.Core.Bool.{_||_};
 ghost use Prim.Native.Nat.{_+_, _≤_};
@@ -16,7 +16,6 @@ use crate::Answer;
 use crate::Refusal;
 use crate::Sort;
 use crate::State;
-use crate::refused;
 use crate::spreading::rules_on;
 use crate::spreading::spread;
 use crate::writing::put_bytes;
@@ -230,41 +229,4 @@ fn followed(s: State, k: usize) -> State
     );
     put_lists(&mut t.lists, 0, left);
     t
-}
-
-// The variables whose values are compared, in this order; any named before are forgotten.
-pub fn name_objectives(s: State, variables: &[u8]) -> AfterCall
-    requires { ⌜ Reached s ⌝ }
-    ensures { λ r. ⌜ Answers s (nameObjectives (now (variables .entry))) (numberOf (r .answer)) (r .state) ⌝ }
-{
-    let count = variables.len();
-    let known = s.variables;
-    if count == 0 || 16 < count {
-        return refused(Refusal::WrongLength, s);
-    }
-    if any_unknown(variables, known) {
-        return refused(Refusal::NoSuchVariable, s);
-    }
-    let mut t = s;
-    let named = sixteen(variables);
-    t.objective = named;
-    t.objectives = count;
-    AfterCall {
-        answer: Answer::Accepted,
-        state: t,
-    }
-}
-
-// The variables in sixteen places; later places are 0.
-fn sixteen(variables: &[u8]) -> [u8; 16]
-    requires { ⌜ length (now variables) ≤ objectiveLimit ⌝ }
-    ensures { λ r. ⌜ r ≡ padded objectiveLimit (now (variables .entry)) ⌝ }
-{
-    let mut named = [0u8; 16];
-    let mut i = 0;
-    while i < variables.len() {
-        named[i] = variables[i];
-        i += 1;
-    }
-    named
 }

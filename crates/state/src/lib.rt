@@ -1,9 +1,4 @@
-// The rota state: the calls of document 01, filtering and search.
-ghost use mathlib.Core.Path.{_≡_};
-ghost use Rattle.meaning.specs.Standing.{nothing};
-ghost use Rattle.meaning.specs.Calls.{addVariable};
-ghost use Rattle.state.specs.Holds.{Holds, Reached};
-ghost use Rattle.state.specs.Promises.{Answers, numberOf};
+// The rota state: adding rules, filtering and search.
 
 mod adding;
 mod allowed;
@@ -20,7 +15,6 @@ mod writing;
 
 pub use adding::add_linear;
 pub use adding::add_table;
-pub use adding::name_objectives;
 pub use search::Rota;
 pub use search::first_reaching;
 pub use sweeps::settled;
@@ -72,55 +66,4 @@ pub enum Sort {
 pub struct AfterCall {
     pub answer: Answer,
     pub state: State,
-}
-
-// The state in which nothing stands.
-pub fn new() -> State
-    ensures { λ r. ⌜ Holds r nothing ⌝ }
-{
-    State {
-        variables: 0,
-        declared: [0; 32],
-        rules: 0,
-        heads: [0; 192],
-        used: 0,
-        room: [0; 4096],
-        objectives: 0,
-        objective: [0; 16],
-        depth: 0,
-        lists: [0; 1056],
-    }
-}
-
-// One variable more, with the values whose bits in marks are 1.
-pub fn add_variable(s: State, marks: u64) -> AfterCall
-    requires { ⌜ Reached s ⌝ }
-    ensures { λ r. ⌜ Answers s (addVariable marks) (numberOf (r .answer)) (r .state) ⌝ }
-{
-    let mut t = s;
-    let depth = t.depth;
-    let n = t.variables;
-    if 0 < depth {
-        return refused(Refusal::Decided, t);
-    }
-    if 32 <= n {
-        return refused(Refusal::Full, t);
-    }
-    t.declared[n] = marks;
-    t.lists[n] = marks;
-    t.variables = n + 1;
-    AfterCall {
-        answer: Answer::Accepted,
-        state: t,
-    }
-}
-
-// The refusal, and the state as it stood.
-fn refused(refusal: Refusal, state: State) -> AfterCall
-    ensures { λ r. ⌜ (r .answer ≡ Answer.Refused refusal) × (r .state ≡ state) ⌝ }
-{
-    AfterCall {
-        answer: Answer::Refused(refusal),
-        state,
-    }
 }

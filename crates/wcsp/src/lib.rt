@@ -44,7 +44,7 @@ pub fn read(text: &[u8]) -> Loaded
         Step::Fault(refusal, at) => Loaded {
             outcome: Outcome::Refused(refusal, at),
             variables: 0,
-            state: state::new(),
+            state: setup::new(),
         },
         Step::Read(_, _) => Loaded {
             outcome: Outcome::Accepted,

@@ -29,11 +29,11 @@ fn declared(sizes: [u8; VARIABLES], n: usize) -> State
     requires { ⌜ Under 65 sizes × (n ≤ variableLimit) ⌝ }
     ensures { λ r. ⌜ Run (variableCalls (take n sizes) []) r ⌝ }
 {
-    let mut state = state::new();
+    let mut state = setup::new();
     let mut i = 0;
     while i < n {
         let size = sizes[i] as usize;
-        let added = state::add_variable(state, values::first_values(size));
+        let added = setup::add_variable(state, values::first_values(size));
         state = added.state;
         i += 1;
     }
@@ -57,7 +57,7 @@ fn stopped(step: Step) -> Attempt
     Attempt {
         step,
         variables: 0,
-        state: state::new(),
+        state: setup::new(),
     }
 }
 

@@ -1,19 +1,14 @@
--- `state::adding::name_objectives` meets its contract. Assumes nothing.
-use mathlib.Core.Path.{_≡_, refl, sym, _∙_}
+-- `setup::name_objectives` meets its contract. Assumes nothing.
+use mathlib.Core.Path.{sym, _∙_}
 use mathlib.Core.Logic.{⊎-elim}
 use native.Mathlib.Omega.{arith}
 use borrow.Author.Tests.{ltb-true, ltb-false}
 use lib.ListN.{length}
 use Rattle.meaning.specs.Limits.{objectiveLimit}
-use Rattle.state.proofs.Naming.{too-few, too-many, wrong-count, unknown-name, names-accepted}
+use Rattle.setup.proofs.Naming.{too-few, too-many, wrong-count, unknown-name, names-accepted}
 use borrow.Author.Needs.{needs}
-use Rattle.state.proofs.adding.name_objectives.Statement.{statement}
-use Rattle.state.proofs.adding.name_objectives.Tie as tie
-use Rattle.state.proofs.adding.name_objectives.Reads as reads
-use Rattle.state.proofs.adding.name_objectives.Lts as lts
-use Rattle.state.proofs.adding.sixteen.Reads as sixteen-reads
-use Rattle.arguments.proofs.any_unknown.Reads as any-unknown-reads
-use Rattle.state.proofs.refused.Reads as refused-reads
+use Rattle.setup.proofs.name_objectives.Statement.{statement}
+use Rattle.setup.proofs.name_objectives.Tie as tie
 
 refused-requires : tie.Need-refused-requires
 refused-requires c κs = search needs

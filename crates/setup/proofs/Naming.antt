@@ -13,14 +13,14 @@ use Rattle.meaning.specs.Order.{outside}
 use Rattle.meaning.specs.Standing.{Standing}
 use Rattle.meaning.specs.Calls.{nameObjectives, some, unknown, tests, accepted}
 use Rattle.meaning.proofs.Steps.{objectives-largest}
 use Rattle.state.specs.declared.State.{State}
 use Rattle.state.specs.declared.Refusal.the-variants.{NoSuchVariable, WrongLength}
 use Rattle.state.specs.declared.Answer.{Answer}
 use Rattle.state.specs.declared.Answer.the-variants.{Refused}
 use Rattle.state.specs.Layout.{padded}
 use Rattle.state.specs.Holds.{Holds}
 use Rattle.state.specs.Promises.{Answers, numberOf}
-use Rattle.state.proofs.Answering.{Finds, finds, refuses, accepts}
+use Rattle.state.proofs.Answering.{finds, refuses, accepts}
 
 abbrev pub withNames : State → List ℕ → ℕ → State
 withNames s named count = record {

@@ -1,4 +1,4 @@
--- `state::add_variable` meets its contract. Assumes nothing.
+-- `setup::add_variable` meets its contract. Assumes nothing.
 use mathlib.Core.Path.{_≡_, refl}
 use mathlib.Core.Logic.{inl, inr}
 use Prim.Native.Nat.{_<_}
@@ -8,15 +8,13 @@ use lib.ListN.{length}
 use Rattle.meaning.specs.Limits.{variableLimit}
 use Rattle.meaning.specs.Calls.{addVariable, tests}
 use Rattle.meaning.proofs.Proper.{leaves-proper}
 use Rattle.state.specs.declared.Refusal.the-variants.{Decided, Full}
 use Rattle.state.proofs.Answering.{finds, refuses, accepts}
-use Rattle.state.proofs.Holding.{withVariable, variable-held, none-of}
+use Rattle.state.proofs.Holding.{none-of}
+use Rattle.setup.proofs.Variables.{withVariable, variable-held}
 use borrow.Author.Needs.{needs}
-use Rattle.state.proofs.add_variable.Statement.{statement}
-use Rattle.state.proofs.add_variable.Tie as tie
-use Rattle.state.proofs.add_variable.Reads as reads
-use Rattle.state.proofs.add_variable.Lts as lts
-use Rattle.state.proofs.refused.Reads as refused-reads
+use Rattle.setup.proofs.add_variable.Statement.{statement}
+use Rattle.setup.proofs.add_variable.Tie as tie
 
 refused-requires : tie.Need-refused-requires
 refused-requires c κs = search needs

@@ -1,14 +1,14 @@
--- `state::adding::sixteen` meets its contract. Assumes nothing.
+-- `setup::sixteen` meets its contract. Assumes nothing.
 use Prim.Native.Nat.{_≤_, _-_}
 use mathlib.Core.Path.{_≡_, _∙_}
 use lib.ListN.{length, replicate}
 use lib.Seq.{paste, paste-zero}
 use Rattle.meaning.specs.Limits.{objectiveLimit}
 use Rattle.blocks.proofs.Copying.{put-front}
 use Rattle.state.proofs.Padding.{put-zeros}
 use borrow.Author.Needs.{needs}
-use Rattle.state.proofs.adding.sixteen.Statement.{statement}
-use Rattle.state.proofs.adding.sixteen.Tie as tie
+use Rattle.setup.proofs.sixteen.Statement.{statement}
+use Rattle.setup.proofs.sixteen.Tie as tie
 
 abbrev Inv-loop : tie.InvT-loop
 Inv-loop variables named₀ i₀ named i = (i ≤ length variables) × (named ≡ paste named₀ 0 variables i)
