@@ -1,18 +1,15 @@
 -- A search for a tuple that stands twice, from the last tuple to the first with a mark at each key passed. Assumes nothing.
-use mathlib.Core.Path.{_≡_, refl, sym, ap, ap₂, _∙_, subst}
-use mathlib.Core.Logic.{⊎-elim, by-cases}
-use mathlib.Core.Bool.{Bool, true, false, _||_, true≢false}
-use mathlib.Core.List.{List, [], _∷_, List·Memᴰ, List·Memᴰ·not-nil, List·Memᴰ·cases-cons}
+use mathlib.Core.Path.{_≡_, sym, ap, _∙_, subst}
+use mathlib.Core.Logic.{by-cases}
+use mathlib.Core.Bool.{Bool, true, false, _||_}
+use mathlib.Core.List.{List, [], _∷_, List·Memᴰ·not-nil}
 use Prim.Native.Nat.{ℕ, _+_, _-_, _*_, _/_, _%_, _≤_, _<_}
 use native.Mathlib.Nat.{mod-lt, mod-le, mod-eq-of-lt, mod-eq-sub-mod, div-add-mod', mul-mod-left, div-zero}
-use native.Mathlib.Decide.{ℕ-discrete, decLe}
-use native.Mathlib.Numerals.{add-one}
+use native.Mathlib.Decide.{decLe}
 use native.Mathlib.Omega.{arith}
-use lib.Dec.{T, eqb, eqb→eq}
-use lib.ListN.{length, getD, set, drop, length-set, length-drop, drop-of-length-le}
-use lib.Seq.{drop-cons, drop-drop, getD-set-same, getD-set-other}
+use lib.ListN.{length, getD, set, drop, length-set, length-drop}
+use lib.Seq.{drop-drop}
 use Rattle.meaning.specs.Calls.{some, same, repeats, rows}
-use Rattle.meaning.proofs.Tests.{and-left, and-right}
 use Rattle.tuples.specs.Keys.{keyLimit, keyFrom, Marked}
 use Rattle.tuples.proofs.Marks.{unmarked, marked-too}
 use Rattle.arguments.specs.Checks.{tupleAt, tuplesIn, listedAgain}

@@ -1,9 +1,9 @@
 -- The largest lists are unique, and are what removing unsupported values comes to, from any lists between them and the declared values.
 -- Assumes nothing.
-use mathlib.Core.Path.{_≡_, refl, sym, ap, _∙_}
+use mathlib.Core.Path.{_≡_, sym, _∙_}
 use mathlib.Core.Logic.{by-cases}
 use mathlib.Core.List.{List, List·Memᴰ}
-use Prim.Native.Nat.{ℕ, _<_}
+use Prim.Native.Nat.{ℕ}
 use lib.ListN.{length, getD}
 use lib.Seq.{ext-getD}
 use Rattle.meaning.specs.Rules.{Rule, scopeOf}

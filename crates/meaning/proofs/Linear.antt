@@ -2,7 +2,6 @@
 -- Assumes nothing.
 use mathlib.Core.Path.{_≡_, refl, ap, sym, _∙_}
 use mathlib.Core.Logic.{_↔_}
-use mathlib.Core.Bool.{Bool, _&&_}
 use mathlib.Core.List.{List, [], _∷_}
 use Prim.Native.Nat.{ℕ, zero, suc, _<_}
 use native.Mathlib.Nat.{not-suc-le-zero, le-of-suc-le-suc}
@@ -13,7 +12,7 @@ use lib.Signed.{_≤ℤ_, ≤ℤ-refl}
 use lib.ListN.{length, getD, set}
 use lib.Seq.{getD-set-same}
 use Rattle.meaning.specs.Values.{bit}
-use Rattle.meaning.specs.Rules.{linear, sum, valuesAt}
+use Rattle.meaning.specs.Rules.{linear, sum}
 use Rattle.meaning.specs.Lists.{Left, Supported}
 use Rattle.meaning.specs.Proper.{Distinct}
 use Rattle.meaning.proofs.Tests.{and-left, and-right, and-both, eq-eqb}

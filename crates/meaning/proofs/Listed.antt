@@ -1,10 +1,10 @@
 -- The values of a set as a list, and the box of the values that lists leave to the variables of a scope.
 -- Assumes nothing.
 use mathlib.Core.Path.{_≡_, refl, ap, ap₂}
-use mathlib.Core.Logic.{_⊎_, inl, inr, ⊎-elim, _↔_}
+use mathlib.Core.Logic.{_⊎_, inl, inr, ⊎-elim}
 use mathlib.Core.Bool.{Bool, true, false, cond, _&&_}
 use mathlib.Core.List.{List, [], _∷_, map, List·Memᴰ, List·Memᴰ·head, List·Memᴰ·tail, List·Memᴰ·not-nil, List·Memᴰ·cases-cons}
-use Prim.Native.Nat.{ℕ, zero, suc, _+_, _*_, _^_, _≤_, _<_}
+use Prim.Native.Nat.{ℕ, zero, suc, _+_, _*_, _^_, _<_}
 use native.Mathlib.Nat.{not-suc-le-zero, le-of-suc-le-suc}
 use native.Mathlib.Omega.{arith}
 use native.Mathlib.Decide.{ℕ-discrete}
@@ -15,7 +15,7 @@ use Rattle.meaning.specs.Values.{bit, Has, Lacks, total, size}
 use Rattle.meaning.specs.Lists.{Left}
 use Rattle.meaning.specs.Proper.{Distinct}
 use Rattle.meaning.proofs.Digits.{bit-cases, has-small}
-use Rattle.meaning.proofs.Counting.{one, count, count-ext}
+use Rattle.meaning.proofs.Counting.{count, count-ext}
 use Rattle.meaning.proofs.Tests.{eq-eqb}
 use Rattle.meaning.proofs.Boxes.{among, among-mem, mem-among, inBox, boxSize, otherSizes, hits, AllDistinct}
 

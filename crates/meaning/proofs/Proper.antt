@@ -2,24 +2,24 @@
 -- Assumes nothing.
 use mathlib.Core.Path.{_≡_, refl, ap, sym, _∙_}
 use mathlib.Core.Logic.{⊎-elim}
-use mathlib.Core.Bool.{Bool, true, false, not, _||_, cond, true≢false}
-use mathlib.Core.List.{List, [], _∷_, _++_, List·Memᴰ, List·Memᴰ·head, List·Memᴰ·tail, List·Memᴰ·not-nil, List·Memᴰ·cases-cons, List·Memᴰ·append-cases, List·Memᴰ·eq-of-singleton, Memᴰ·append-left, Memᴰ·append-right}
+use mathlib.Core.Bool.{Bool, true, false, not, cond, true≢false}
+use mathlib.Core.List.{List, [], _∷_, _++_, List·Memᴰ, List·Memᴰ·not-nil, List·Memᴰ·cases-cons, List·Memᴰ·append-cases, List·Memᴰ·eq-of-singleton, Memᴰ·append-left, Memᴰ·append-right}
 use Prim.Native.Nat.{ℕ, zero, suc, _+_, _*_, _/_, _%_, _≤_, _<_}
 use native.Mathlib.Nat.{suc-mul, div-mul-le-self}
 use native.Mathlib.Omega.{arith}
 use borrow.Author.Tests.{ltb-false, leb-false, eqb-true, eqb-false, not-false, eq-eqb}
-use lib.Dec.{T, leb, ltb, eqb}
+use lib.Dec.{leb, ltb, eqb}
 use lib.IntN.{ℤ, pos, negsuc}
 use lib.ListN.{length, take, drop, length-append, length-take, length-drop, take-append-drop}
 use lib.Seq.{length-take-le}
 use Rattle.meaning.specs.Limits.{valueLimit, variableLimit, ruleLimit, roomLimit, arityLimit, termLimit, coefficientLimit, boundLimit, objectiveLimit, decisionLimit}
 use Rattle.meaning.specs.Refusals.{Refusal, number, first}
 use Rattle.meaning.specs.Order.{outside}
-use Rattle.meaning.specs.Rules.{Rule, allowed, forbidden, linear, scopeOf, room}
+use Rattle.meaning.specs.Rules.{Rule, linear, room}
 use Rattle.meaning.specs.Standing.{Standing, Decision, pinned, banned, nothing}
 use Rattle.meaning.specs.Calls.{Sort, allow, forbid, Call, addVariable, addTable, addLinear, nameObjectives, pin, ban, takeBack, some, same, repeats, beyond, rows, tuplesOf, held, ruleOf, unknown, overfull, tests, refusal, withRule, withDecisions, accepted, after}
 use Rattle.meaning.specs.Histories.{Leaves, none, call}
-use Rattle.meaning.specs.Proper.{Distinct, ProperTuples, Around, ProperTerms, ProperParts, ProperRule, Proper}
+use Rattle.meaning.specs.Proper.{Distinct, ProperTuples, Around, ProperRule, Proper}
 use Rattle.meaning.proofs.Tests.{or-no}
 
 -- ---- an accepted call has passed every test

@@ -1,20 +1,20 @@
 -- Solutions and the values left: lists between the declared values and the largest keep every solution; closed lists of one value each are one.
 -- Assumes nothing.
-use mathlib.Core.Path.{_≡_, refl, sym, ap, _∙_}
+use mathlib.Core.Path.{_≡_, refl, sym}
 use mathlib.Core.List.{List, [], _∷_, map, List·Memᴰ, List·Memᴰ·head, List·Memᴰ·tail}
 use mathlib.Core.Logic.{by-cases}
-use Prim.Native.Nat.{ℕ, zero, suc, _^_, _≤_, _<_}
+use Prim.Native.Nat.{ℕ, zero, suc, _^_, _<_}
 use native.Mathlib.Nat.{not-suc-le-zero, le-of-suc-le-suc}
 use native.Mathlib.Decide.{ℕ-discrete, decLt}
 use native.Mathlib.Omega.{arith}
 use lib.ListN.{length, getD, length-map, List·getD-eq-default}
 use Rattle.meaning.specs.Values.{Has}
 use Rattle.meaning.specs.Rules.{Rule, allowed, forbidden, linear, scopeOf, Satisfies, at, valuesAt}
-use Rattle.meaning.specs.Standing.{Standing, Decision, Permits}
-use Rattle.meaning.specs.Lists.{Left, Supported, Closed, Within, Largest}
+use Rattle.meaning.specs.Standing.{Standing}
+use Rattle.meaning.specs.Lists.{Left, Closed, Within}
 use Rattle.meaning.specs.Solutions.{Solution}
 use Rattle.meaning.proofs.Digits.{zero-bit, bit-pow-same, bit-pow-other}
-use Rattle.meaning.proofs.Largest.{Between, _⊑_}
+use Rattle.meaning.proofs.Largest.{Between}
 
 -- ---- a rule sees an assignment only at its own variables
 

@@ -3,7 +3,7 @@
 use mathlib.Core.Path.{_≡_, refl, sym, ap, _∙_}
 use mathlib.Core.Logic.{_⊎_, inl, inr, ⊎-elim, _↔_, by-cases}
 use mathlib.Core.List.{List, [], _∷_, _++_, List·Memᴰ, List·Memᴰ·head, List·Memᴰ·not-nil, List·Memᴰ·append-cases, List·Memᴰ·eq-of-singleton, Memᴰ·append-left, Memᴰ·append-right}
-use Prim.Native.Nat.{ℕ, _+_, _^_, _≤_, _<_}
+use Prim.Native.Nat.{ℕ, _+_, _^_, _<_}
 use native.Mathlib.Decide.{ℕ-discrete, decLt}
 use native.Mathlib.Omega.{arith}
 use lib.ListN.{length, getD, set, take, length-append, length-set, length-take, List·getD-append}
@@ -11,8 +11,8 @@ use lib.Seq.{getD-set-same, getD-set-other, getD-take, getD-at}
 use Rattle.meaning.specs.Values.{bit, Has, Lacks}
 use Rattle.meaning.specs.Rules.{Rule, scopeOf, at}
 use Rattle.meaning.specs.Standing.{Standing, Decision, pinned, banned, Permits, nothing}
-use Rattle.meaning.specs.Lists.{Left, Supported, Closed, Within, Largest, Cut}
-use Rattle.meaning.specs.Calls.{withRule, withDecisions, decide, Call, addVariable, nameObjectives, accepted}
+use Rattle.meaning.specs.Lists.{Left, Closed, Within, Largest, Cut}
+use Rattle.meaning.specs.Calls.{withRule, decide, addVariable, nameObjectives, accepted}
 use Rattle.meaning.proofs.Digits.{bit-pow-same, bit-pow-other}
 use Rattle.meaning.proofs.Largest.{Between, supported-mono}
 use Rattle.meaning.proofs.Solutions.{left-below}

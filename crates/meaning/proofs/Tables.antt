@@ -1,19 +1,17 @@
 -- Support in a table: in an allowed table by a live tuple, in a forbidden one by counting.
 -- Assumes nothing.
-use mathlib.Core.Path.{_≡_, refl, ap, ap₂, sym, _∙_}
-use mathlib.Core.Logic.{_⊎_, inl, inr, _↔_}
-use mathlib.Core.Bool.{Bool, true, false, _&&_}
-use mathlib.Core.List.{List, [], _∷_, map, List·Memᴰ, List·Memᴰ·head, List·Memᴰ·tail}
-use Prim.Native.Nat.{ℕ, _+_, _<_}
+use mathlib.Core.Path.{_≡_}
+use mathlib.Core.Logic.{_↔_}
+use mathlib.Core.List.{List, List·Memᴰ}
+use Prim.Native.Nat.{ℕ, _<_}
 use native.Mathlib.Omega.{arith}
-use lib.Dec.{T, eqb, eqb→eq}
-use lib.ListN.{length, getD, length-map, List·getD-map}
+use lib.Dec.{T}
+use lib.ListN.{length, getD, length-map}
 use Rattle.meaning.specs.Limits.{valueLimit}
 use Rattle.meaning.specs.Rules.{allowed, forbidden}
 use Rattle.meaning.specs.Lists.{Left, Supported}
 use Rattle.meaning.specs.Proper.{Distinct}
-use Rattle.meaning.proofs.Counting.{one, count}
-use Rattle.meaning.proofs.Tests.{and-both, and-left, eq-eqb}
+use Rattle.meaning.proofs.Counting.{one}
 use Rattle.meaning.proofs.Boxes.{inBox, otherSizes, hits, forbidden-law}
 use Rattle.meaning.proofs.Listed.{below, listed, listed-distinct, live, live-is, listed-has, liveWith, liveWith-is, productBut, productBut-is, Words}
 use Rattle.meaning.proofs.Assignments.{tuple-iff}

@@ -1,6 +1,5 @@
 // What words say as numbers.
 ghost use Prim.Native.Nat.{_≤_, _<_};
-ghost use lib.ListN.{length};
 
 // The largest number of 64 bits.
 pub(crate) const MOST: u64 = 0xffff_ffff_ffff_ffff;

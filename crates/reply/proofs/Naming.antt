@@ -1,19 +1,17 @@
 -- What stands after a file's calls: as many variables as it has sizes, no decision, and the objectives named. Assumes nothing.
-use mathlib.Core.Path.{_≡_, refl, sym, ap, ap₂, _∙_, subst, subst⁻¹}
-use mathlib.Core.Logic.{inl, inr}
+use mathlib.Core.Path.{_≡_, refl, ap, ap₂, _∙_, subst, subst⁻¹}
+use mathlib.Core.Logic.{inr}
 use mathlib.Core.Bool.{Bool, true, false, cond, _||_}
-use mathlib.Core.List.{List, [], _∷_, _++_}
+use mathlib.Core.List.{List, [], _∷_}
 use Prim.Native.Nat.{ℕ, zero, suc, _+_, _-_, _^_, _≤_, _<_, min}
 use native.Mathlib.Omega.{arith}
-use borrow.Author.Tests.{eq-eqb, ne-eqb, le-leb, lt-leb, le-ltb}
-use lib.Dec.{leb, ltb, eqb}
+use borrow.Author.Tests.{eq-eqb, ne-eqb, lt-leb, le-ltb}
+use lib.Dec.{leb, eqb}
 use lib.ListN.{length, length-append}
 use Rattle.meaning.specs.Limits.{variableLimit, objectiveLimit}
-use Rattle.meaning.specs.Refusals as Table
-use Rattle.meaning.specs.Refusals.{first}
 use Rattle.meaning.specs.Order.{outside}
 use Rattle.meaning.specs.Standing.{Standing, nothing}
-use Rattle.meaning.specs.Calls.{Call, addVariable, addTable, nameObjectives, some, unknown, tests, refusal, accepted, after}
+use Rattle.meaning.specs.Calls.{Call, addVariable, nameObjectives, some, tests, refusal, accepted, after}
 use Rattle.meaning.specs.Histories.{Leaves, none, call}
 use Rattle.state.proofs.Answering.{Finds, finds}
 use Rattle.wcsp.specs.Files.{File, Table, tableCall, variableCalls, tableCalls, calls}

@@ -1,7 +1,7 @@
 -- The answer to a file, refused or accepted. Assumes nothing.
-use mathlib.Core.Path.{_≡_, refl, sym, ap, ap₂, _∙_, subst, subst⁻¹}
+use mathlib.Core.Path.{_≡_, sym, ap, ap₂, _∙_, subst}
 use mathlib.Core.Bool.{true≢false}
-use mathlib.Core.List.{List, _∷_}
+use mathlib.Core.List.{List}
 use Prim.Native.Nat.{ℕ, _≤_, _<_}
 use native.Mathlib.Omega.{arith}
 use lib.ListN.{length}
@@ -12,9 +12,8 @@ use Rattle.state.specs.Holds.{Reached}
 use Rattle.state.specs.Promises.{tableOf}
 use Rattle.state.proofs.Runs.{run-reached}
 use Rattle.wcsp.specs.declared.Loaded.{Loaded}
-use Rattle.wcsp.specs.declared.Outcome.{Outcome}
 use Rattle.wcsp.specs.declared.Outcome.the-variants.{Accepted, Refused}
-use Rattle.wcsp.specs.Files.{File, file}
+use Rattle.wcsp.specs.Files.{file}
 use Rattle.wcsp.specs.Steps.{numberOf}
 use Rattle.wcsp.specs.Promises.{Reads, said}
 use Rattle.wcsp.proofs.Readings.{isFault}

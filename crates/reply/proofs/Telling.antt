@@ -1,21 +1,20 @@
 -- The lines of an answer, and of none. Assumes nothing.
-use mathlib.Core.Path.{_≡_, refl, sym, ap, ap₂, _∙_, subst, subst⁻¹}
-use mathlib.Core.Bool.{Bool, true, false, cond, _&&_, _||_}
-use mathlib.Core.List.{List, [], _∷_, _++_, map}
+use mathlib.Core.Path.{_≡_, refl, sym, ap, ap₂, _∙_, subst}
+use mathlib.Core.Bool.{Bool, cond, _&&_, _||_}
+use mathlib.Core.List.{List, [], _∷_}
 use Prim.Native.Nat.{ℕ, zero, suc, _+_, _-_, _≤_, _<_, min}
 use native.Mathlib.Numerals.{add-one}
 use native.Mathlib.Omega.{arith}
 use borrow.Author.Tests.{le-leb, ne-eqb, le-ltb}
-use lib.Dec.{leb, ltb, eqb}
-use lib.ListN.{length, getD, take, drop, replicate, length-take}
+use lib.ListN.{length, take, drop, replicate, length-take}
 use lib.Seq.{take-at, take-take, drop-cons, length-take-le}
 use Rattle.meaning.specs.Limits.{variableLimit, objectiveLimit}
 use Rattle.meaning.specs.Refusals as Table
 use Rattle.meaning.specs.Refusals.{first}
-use Rattle.meaning.specs.Rules.{at, valuesAt}
-use Rattle.meaning.specs.Order.{sorted, outside}
+use Rattle.meaning.specs.Rules.{valuesAt}
+use Rattle.meaning.specs.Order.{sorted}
 use Rattle.meaning.specs.Standing.{Standing}
-use Rattle.meaning.specs.Solutions.{Answer, profile}
+use Rattle.meaning.specs.Solutions.{profile}
 use Rattle.meaning.specs.Calls.{Call, nameObjectives}
 use Rattle.meaning.specs.Histories.{Leaves}
 use Rattle.meaning.proofs.Proper.{number-above}

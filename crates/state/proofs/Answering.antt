@@ -1,13 +1,12 @@
 -- How an answer meets its promise: a refusal leaves the state as it stood, an accepted call leaves what is accepted.
 -- Assumes nothing.
-use mathlib.Core.Path.{_≡_, refl, sym, ap, _∙_}
+use mathlib.Core.Path.{_≡_, sym, ap, _∙_}
 use mathlib.Core.Logic.{_⊎_, inl, inr}
 use mathlib.Core.Bool.{Bool, true, false, cond}
 use mathlib.Core.List.{List, [], _∷_}
 use Prim.Native.Nat.{ℕ}
 use native.Mathlib.Omega.{arith}
 use borrow.Author.Tests.{eq-eqb, ne-eqb}
-use lib.Dec.{eqb}
 use Rattle.meaning.specs.Refusals as Table
 use Rattle.meaning.specs.Refusals.{number, first}
 use Rattle.meaning.specs.Standing.{Standing}
@@ -19,7 +18,7 @@ use Rattle.meaning.proofs.Proper.{number-above, leaves-proper}
 use Rattle.state.specs.declared.State.{State}
 use Rattle.state.specs.declared.Refusal.{Refusal}
 use Rattle.state.specs.declared.Answer.{Answer}
-use Rattle.state.specs.declared.Answer.the-variants.{Accepted, Refused}
+use Rattle.state.specs.declared.Answer.the-variants.{Refused}
 use Rattle.state.specs.Holds.{Holds}
 use Rattle.state.specs.Promises.{Answers, numberOf, tableOf}
 

@@ -1,11 +1,10 @@
 -- A rule by its sort: what its head says, and what filtering by it asks. Assumes nothing.
-use mathlib.Core.Path.{_≡_, refl, sym, ap, _∙_}
+use mathlib.Core.Path.{_≡_, refl, ap, _∙_}
 use mathlib.Core.List.{List}
-use Prim.Native.Nat.{ℕ, zero, suc, _+_, _*_, _≤_}
+use Prim.Native.Nat.{ℕ, zero, suc, _+_, _*_}
 use native.Mathlib.Omega.{arith}
 use lib.ListN.{length, getD}
 use Rattle.meaning.specs.Limits.{variableLimit}
-use Rattle.meaning.specs.Rules.{Rule}
 use Rattle.state.specs.Layout.{head, ruleBy, sizeBy, ruleAt, Placed}
 use Rattle.state.specs.Filter.{Ready}
 use Rattle.state.specs.Tables.{allowedAt, forbiddenAt}

@@ -8,7 +8,7 @@ use native.Mathlib.Omega.{arith}
 use lib.Bits.{bitAnd}
 use lib.ListN.{length, getD, set, length-set}
 use lib.Seq.{getD-set-same, getD-set-other}
-use Rattle.meaning.specs.Values.{bit, Has, Lacks}
+use Rattle.meaning.specs.Values.{bit}
 use Rattle.meaning.proofs.Digits.{bit-and, bit-pow-same, bit-pow-other, zero-bit}
 use Rattle.state.specs.Filter.{Kept, Changed}
 

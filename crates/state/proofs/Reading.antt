@@ -12,7 +12,7 @@ use Rattle.meaning.specs.Standing.{Standing}
 use Rattle.meaning.specs.Proper.{Proper}
 use Rattle.meaning.proofs.Proper.{leaves-proper}
 use Rattle.state.specs.declared.State.{State}
-use Rattle.state.specs.Layout.{ruleAt, rulesAt, AllPlaced, headsOf, roomOf, padded}
+use Rattle.state.specs.Layout.{rulesAt, AllPlaced, headsOf, roomOf, padded}
 use Rattle.state.specs.Holds.{Holds, Reached}
 use Rattle.state.proofs.Rooms.{AllProper}
 use Rattle.state.proofs.ReadBack as ReadBack

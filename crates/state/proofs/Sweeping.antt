@@ -3,17 +3,17 @@
 use mathlib.Core.Path.{_≡_, refl, sym, ap, _∙_}
 use mathlib.Core.Logic.{_⊎_, inl, inr, ⊎-elim, by-cases}
 use mathlib.Core.List.{List, [], _∷_, _++_, List·Memᴰ, List·Memᴰ·head, List·Memᴰ·tail, List·Memᴰ·not-nil, List·Memᴰ·cases-cons}
-use Prim.Native.Nat.{ℕ, _+_, _^_, _≤_, _<_, min}
+use Prim.Native.Nat.{ℕ, _+_, _≤_, _<_, min}
 use native.Mathlib.Decide.{ℕ-discrete, decLt}
 use native.Mathlib.Numerals.{add-one}
 use native.Mathlib.Omega.{arith}
-use lib.Bits.{bitOr, bitAnd, or-add-and, and-le-l, and-comm}
+use lib.Bits.{bitOr, or-add-and, and-le-l, and-comm}
 use lib.ListN.{length, getD, List·getD-eq-default}
 use lib.Seq.{ext-getD}
 use Rattle.meaning.specs.Limits.{valueLimit, variableLimit}
-use Rattle.meaning.specs.Values.{bit, Has, Lacks, total, size}
+use Rattle.meaning.specs.Values.{Has, size}
 use Rattle.meaning.specs.Rules.{Rule, scopeOf}
-use Rattle.meaning.specs.Lists.{Left, Supported, Closed}
+use Rattle.meaning.specs.Lists.{Closed}
 use Rattle.meaning.proofs.Digits.{zero-bit, bit-high, bit-cases}
 use Rattle.meaning.proofs.Sizes.{total-le, total-lt, size-le}
 use Rattle.meaning.proofs.Sets.{some-digit, word-of-digits, same-size}

@@ -1,6 +1,6 @@
 -- The tests that the additions make, each with the number that it finds. Assumes nothing.
 use mathlib.Core.Path.{_≡_, refl, sym, ap, _∙_}
-use mathlib.Core.Logic.{_⊎_, inl, inr, by-cases}
+use mathlib.Core.Logic.{inl, inr, by-cases}
 use mathlib.Core.Bool.{Bool, true, false, not, _||_, or-true}
 use mathlib.Core.List.{List}
 use Prim.Native.Nat.{ℕ, _+_, _-_, _*_, _/_, _%_, _≤_, _<_}
@@ -14,14 +14,14 @@ use lib.ListN.{length}
 use Rattle.meaning.specs.Limits.{valueLimit, ruleLimit, roomLimit, arityLimit, termLimit, coefficientLimit, boundLimit}
 use Rattle.meaning.specs.Refusals.{Refusal, number, decided, wrongLength, noSuchVariable, variableTwice, outOfRange, tupleTwice, full}
 use Rattle.meaning.specs.Order.{outside}
-use Rattle.meaning.specs.Rules.{Rule, linear, room}
+use Rattle.meaning.specs.Rules.{linear, room}
 use Rattle.meaning.specs.Standing.{Standing}
 use Rattle.meaning.specs.Calls as Calls
-use Rattle.meaning.specs.Calls.{Call, addTable, addLinear, some, same, repeats, beyond, tuplesOf, ruleOf, unknown, overfull, tests, refusal, held}
-use Rattle.meaning.proofs.Proper.{number-above, rows-count, some-no, beyond-no, outside-no}
+use Rattle.meaning.specs.Calls.{addTable, addLinear, some, same, repeats, beyond, tuplesOf, ruleOf, unknown, overfull, tests}
+use Rattle.meaning.proofs.Proper.{number-above, rows-count, some-no, beyond-no}
 use Rattle.meaning.proofs.Tests.{or-no}
 use Rattle.arguments.specs.Checks.{tuplesIn}
-use Rattle.state.specs.Additions.{Counted, TableFits, TableTested, LinearFits, LinearTested}
+use Rattle.state.specs.Additions.{Counted, TableTested, LinearTested}
 use Rattle.state.proofs.Answering.{Finds, finds}
 
 -- ---- one test

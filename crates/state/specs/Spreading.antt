@@ -5,7 +5,7 @@ use mathlib.Core.List.{List, List·Memᴰ}
 use Prim.Native.Nat.{ℕ, _+_, _≤_, _<_}
 use lib.ListN.{length, getD}
 use Rattle.meaning.specs.Limits.{variableLimit}
-use Rattle.meaning.specs.Values.{bit, Has, Lacks}
+use Rattle.meaning.specs.Values.{Has, Lacks}
 use Rattle.meaning.specs.Rules.{Rule, scopeOf}
 use Rattle.meaning.specs.Lists.{Left, Supported}
 use Rattle.state.specs.declared.spreading.Affected.{Affected}

@@ -1,7 +1,7 @@
 // The search: the lowest open variable goes through its values upwards, and after each choice the lists are narrowed.
 // `sets` are the rules on each variable, `goals` the objectives, and `floors` the thresholds that their values are to reach.
 ghost use mathlib.Core.Path.{_≡_};
-ghost use mathlib.Core.Bool.{true, false};
+ghost use mathlib.Core.Bool.{true};
 ghost use Prim.Native.Nat.{_≤_, _<_};
 ghost use lib.ListN.{length, getD, take, set};
 ghost use Rattle.meaning.specs.Limits.{variableLimit, objectiveLimit};

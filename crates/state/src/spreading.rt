@@ -1,9 +1,9 @@
 // Filtering only by the rules that a change can touch: the same largest lists by less work.
 ghost use mathlib.Core.Path.{_≡_};
-ghost use Prim.Native.Nat.{_+_, _≤_, _<_};
+ghost use Prim.Native.Nat.{_≤_, _<_};
 ghost use lib.ListN.{length};
 ghost use Rattle.meaning.specs.Limits.{variableLimit, ruleLimit, roomLimit};
-ghost use Rattle.state.specs.Layout.{AllPlaced, rulesAt, scopeAt, Placed};
+ghost use Rattle.state.specs.Layout.{AllPlaced, rulesAt, scopeAt};
 ghost use Rattle.state.specs.Spreading.{Touching, Noted, Due, AffectedBy, InVariables, Spread, ScopeFits};
 use crate::sweeps::filter_rule;
 

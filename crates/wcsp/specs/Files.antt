@@ -1,7 +1,7 @@
 -- What a file means (document 01, "Reading wcsp"): its first fault, or the variables and tables that it adds.
 use mathlib.Core.Bool.{Bool, not, _||_, cond}
-use mathlib.Core.List.{List, [], _∷_, _++_}
-use Prim.Native.Nat.{ℕ, zero, suc, _+_, _-_, _*_, _^_}
+use mathlib.Core.List.{List, [], _∷_}
+use Prim.Native.Nat.{ℕ, _+_, _-_, _*_, _^_}
 use lib.Dec.{leb, ltb, eqb}
 use lib.ListN.{length, getD}
 use Rattle.meaning.specs.Limits.{variableLimit, valueLimit, ruleLimit, roomLimit, arityLimit}

@@ -4,13 +4,12 @@ use mathlib.Core.List.{List}
 use Prim.Native.Nat.{ℕ}
 use lib.ListN.{length}
 use Rattle.meaning.specs.Standing.{nothing}
-use Rattle.state.specs.declared.State.{State}
 use Rattle.state.specs.Holds.{Holds}
 use Rattle.state.specs.Runs.{Run}
 use Rattle.wcsp.specs.declared.Outcome.{Outcome}
 use Rattle.wcsp.specs.declared.Outcome.the-variants.{Accepted, Refused}
 use Rattle.wcsp.specs.declared.Loaded.{Loaded}
-use Rattle.wcsp.specs.Reading.{Reading, fault, got}
+use Rattle.wcsp.specs.Reading.{fault, got}
 use Rattle.wcsp.specs.Files.{File, file, calls}
 use Rattle.wcsp.specs.Steps.{numberOf}
 

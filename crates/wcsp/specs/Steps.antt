@@ -8,7 +8,6 @@ use Rattle.meaning.specs.Limits.{variableLimit, valueLimit, ruleLimit, roomLimi
 use Rattle.meaning.specs.Refusals as Numbers
 use Rattle.tuples.specs.Keys.{keyLimit, Marked}
 use Rattle.state.specs.declared.Refusal.{Refusal}
-use Rattle.meaning.specs.Calls.{Sort}
 use Rattle.state.specs.Promises.{tableOf, sortSaid}
 use Rattle.state.specs.Layout.{joined}
 use Rattle.wcsp.specs.declared.Step.{Step}

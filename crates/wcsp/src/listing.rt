@@ -1,11 +1,10 @@
 // The tuples of a table.
 ghost use mathlib.Core.Path.{_≡_};
-ghost use mathlib.Core.List.{[], _++_};
-ghost use Prim.Native.Nat.{_+_, _*_, _≤_, _<_};
+ghost use mathlib.Core.List.{[]};
+ghost use Prim.Native.Nat.{_+_, _*_, _≤_};
 ghost use lib.ListN.{length, take, drop};
 ghost use Rattle.meaning.specs.Limits.{variableLimit, roomLimit, arityLimit};
 ghost use Rattle.meaning.specs.Calls.{some, same, rows};
-ghost use Rattle.state.specs.Layout.{joined};
 ghost use Rattle.wcsp.specs.Reading.{several, times};
 ghost use Rattle.wcsp.specs.Files.{valueTests, sameSaid, tuple};
 ghost use Rattle.wcsp.specs.Steps.{Comes, Under, Behind, Filled, Keyed, KeyedOn, NextTuple};

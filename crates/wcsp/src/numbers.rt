@@ -1,12 +1,11 @@
 // One number of a file, with the tests it has to pass.
 ghost use mathlib.Core.List.{[], _∷_};
-ghost use Prim.Native.Nat.{_+_, _*_, _≤_};
-ghost use lib.Dec.{leb, ltb};
-ghost use lib.ListN.{take};
+ghost use Prim.Native.Nat.{_≤_};
+ghost use lib.Dec.{leb};
 ghost use Rattle.meaning.specs.Limits.{roomLimit, arityLimit};
 ghost use Rattle.state.specs.Promises.{tableOf};
 ghost use Rattle.wcsp.specs.Reading.{number, anyNumber, range};
-ghost use Rattle.wcsp.specs.Files.{countTests, variableTests};
+ghost use Rattle.wcsp.specs.Files.{countTests};
 ghost use Rattle.wcsp.specs.Steps.{ComesTo};
 use crate::Step;
 use meaning::ROOM;

@@ -4,15 +4,6 @@ use Rattle.state.proofs.Runs.{reached-new, reached-after}
 use borrow.Author.Needs.{needs}
 use Rattle.decisions.proofs.main.Statement.{statement}
 use Rattle.decisions.proofs.main.Tie as tie
-use Rattle.decisions.proofs.main.Reads as reads
-use Rattle.decisions.proofs.main.Lts as lts
-use Rattle.decisions.proofs.ban_each.Reads as ban-each-reads
-use Rattle.decisions.proofs.letter.Reads as letter-reads
-use Rattle.io.proofs.write_all.Reads as write-all-reads
-use Rattle.setup.proofs.add_variable.Reads as add-variable-reads
-use Rattle.decide.proofs.ban.Reads as ban-reads
-use Rattle.decide.proofs.take_back.Reads as take-back-reads
-use Rattle.setup.proofs.new.Reads as new-reads
 
 new-requires : tie.Need-new-requires
 new-requires c κs = search needs

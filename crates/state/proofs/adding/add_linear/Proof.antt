@@ -1,5 +1,5 @@
 -- `state::adding::add_linear` meets its contract. Assumes nothing.
-use mathlib.Core.Path.{_≡_, ap}
+use mathlib.Core.Path.{ap}
 use mir.Facts.{toZ-ofZ}
 use Rattle.state.specs.Promises.{numberOf}
 use Rattle.state.proofs.Holding.{sizes}
@@ -7,11 +7,6 @@ use Rattle.state.proofs.NewLinear.{linear-followable, linear-answers, l
 use borrow.Author.Needs.{needs}
 use Rattle.state.proofs.adding.add_linear.Statement.{statement}
 use Rattle.state.proofs.adding.add_linear.Tie as tie
-use Rattle.state.proofs.adding.add_linear.Reads as reads
-use Rattle.state.proofs.adding.add_linear.Lts as lts
-use Rattle.state.proofs.adding.followed.Reads as followed-reads
-use Rattle.state.proofs.adding.linear_tested.Reads as linear-tested-reads
-use Rattle.state.proofs.adding.with_linear.Reads as with-linear-reads
 
 linear-tested-requires : tie.Need-linear-tested-requires
 linear-tested-requires c κs = sizes (c .before .pre) .used

@@ -1,5 +1,5 @@
 -- `state::adding::add_table` meets its contract. Assumes nothing.
-use mathlib.Core.Path.{_≡_, refl, ap}
+use mathlib.Core.Path.{refl, ap}
 use Rattle.meaning.specs.Calls.{addTable, ruleOf}
 use Rattle.state.specs.Promises.{numberOf, sortSaid}
 use Rattle.state.proofs.Holding.{sizes}
@@ -7,11 +7,6 @@ use Rattle.state.proofs.Extending.{added-followable, added-answers, add
 use borrow.Author.Needs.{needs}
 use Rattle.state.proofs.adding.add_table.Statement.{statement}
 use Rattle.state.proofs.adding.add_table.Tie as tie
-use Rattle.state.proofs.adding.add_table.Reads as reads
-use Rattle.state.proofs.adding.add_table.Lts as lts
-use Rattle.state.proofs.adding.followed.Reads as followed-reads
-use Rattle.state.proofs.adding.table_tested.Reads as table-tested-reads
-use Rattle.state.proofs.adding.with_table.Reads as with-table-reads
 
 table-tested-requires : tie.Need-table-tested-requires
 table-tested-requires c κs = sizes (c .before .before .pre) .used

@@ -3,8 +3,6 @@ use Rattle.state.proofs.Testing.{full-rules, full-first, full-then}
 use borrow.Author.Needs.{needs}
 use Rattle.state.proofs.adding.is_full.Statement.{statement}
 use Rattle.state.proofs.adding.is_full.Tie as tie
-use Rattle.state.proofs.adding.is_full.Reads as reads
-use Rattle.state.proofs.adding.is_full.Lts as lts
 
 returns : tie.Need-returns
 returns c =

@@ -1,5 +1,5 @@
 -- `state::adding::linear_tested` meets its contract. Assumes nothing.
-use mathlib.Core.Path.{_≡_, sym, ap, _∙_}
+use mathlib.Core.Path.{sym, ap, _∙_}
 use mathlib.Core.Bool.{not}
 use mathlib.Core.Logic.{⊎-elim}
 use native.Mathlib.Omega.{arith}
@@ -13,13 +13,6 @@ use Rattle.state.proofs.Testing.{wrong-low, wrong-high, wrong-other, fa
 use borrow.Author.Needs.{needs}
 use Rattle.state.proofs.adding.linear_tested.Statement.{statement}
 use Rattle.state.proofs.adding.linear_tested.Tie as tie
-use Rattle.state.proofs.adding.linear_tested.Reads as reads
-use Rattle.state.proofs.adding.linear_tested.Lts as lts
-use Rattle.state.proofs.adding.is_full.Reads as is-full-reads
-use Rattle.arguments.proofs.any_beyond.Reads as any-beyond-reads
-use Rattle.arguments.proofs.any_twice.Reads as any-twice-reads
-use Rattle.arguments.proofs.any_unknown.Reads as any-unknown-reads
-use Rattle.arguments.proofs.beyond_bound.Reads as beyond-bound-reads
 
 returns : tie.Need-returns
 returns c =

@@ -1,5 +1,5 @@
 -- `state::adding::table_tested` meets its contract. Assumes nothing.
-use mathlib.Core.Path.{_≡_, sym, _∙_}
+use mathlib.Core.Path.{sym, _∙_}
 use mathlib.Core.Bool.{not}
 use mathlib.Core.Logic.{⊎-elim}
 use Prim.Native.Nat.{_%_}
@@ -12,13 +12,6 @@ use Rattle.state.proofs.Testing.{wrong-low, wrong-high, wrong-other, ta
 use borrow.Author.Needs.{needs}
 use Rattle.state.proofs.adding.table_tested.Statement.{statement}
 use Rattle.state.proofs.adding.table_tested.Tie as tie
-use Rattle.state.proofs.adding.table_tested.Reads as reads
-use Rattle.state.proofs.adding.table_tested.Lts as lts
-use Rattle.state.proofs.adding.is_full.Reads as is-full-reads
-use Rattle.arguments.proofs.any_large.Reads as any-large-reads
-use Rattle.arguments.proofs.any_twice.Reads as any-twice-reads
-use Rattle.arguments.proofs.any_unknown.Reads as any-unknown-reads
-use Rattle.arguments.proofs.tuple_twice.Reads as tuple-twice-reads
 
 returns : tie.Need-returns
 returns c =

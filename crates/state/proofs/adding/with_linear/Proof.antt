@@ -1,5 +1,5 @@
 -- `state::adding::with_linear` meets its contract. Assumes nothing.
-use mathlib.Core.Path.{_≡_, _∙_, ap}
+use mathlib.Core.Path.{_∙_, ap}
 use mir.Facts.{toZ-ofZ}
 use Rattle.meaning.specs.Limits.{boundLimit}
 use Rattle.state.specs.Layout.{shift}
@@ -7,12 +7,6 @@ use Rattle.state.proofs.Extending.{linear-laid}
 use borrow.Author.Needs.{needs}
 use Rattle.state.proofs.adding.with_linear.Statement.{statement}
 use Rattle.state.proofs.adding.with_linear.Tie as tie
-use Rattle.state.proofs.adding.with_linear.Reads as reads
-use Rattle.state.proofs.adding.with_linear.Lts as lts
-use Rattle.state.proofs.writing.put_bytes.Reads as put-bytes-reads
-use Rattle.state.proofs.writing.put_head.Reads as put-head-reads
-use Rattle.state.proofs.writing.put_shifted.Reads as put-shifted-reads
-use Rattle.state.proofs.writing.shifted_bound.Reads as shifted-bound-reads
 
 put-bytes-requires : tie.Need-put-bytes-requires
 put-bytes-requires c κs = search needs

@@ -1,17 +1,9 @@
 -- `state::adding::with_table` meets its contract. Assumes nothing.
-use Prim.Native.Nat.{_/_}
 use native.Mathlib.Omega.{arith}
-use mathlib.Core.Path.{_≡_}
-use lib.ListN.{length}
 use Rattle.state.proofs.Extending.{table-laid, tuples-few}
 use borrow.Author.Needs.{needs}
 use Rattle.state.proofs.adding.with_table.Statement.{statement}
 use Rattle.state.proofs.adding.with_table.Tie as tie
-use Rattle.state.proofs.adding.with_table.Reads as reads
-use Rattle.state.proofs.adding.with_table.Lts as lts
-use Rattle.state.proofs.adding.sort_number.Reads as sort-number-reads
-use Rattle.state.proofs.writing.put_bytes.Reads as put-bytes-reads
-use Rattle.state.proofs.writing.put_head.Reads as put-head-reads
 
 div-tuples : tie.Need-div-tuples
 div-tuples c = search needs

@@ -7,8 +7,6 @@ use Rattle.state.proofs.Keeping.{kept-same, kept-less}
 use borrow.Author.Needs.{needs}
 use Rattle.state.proofs.lists.keep.Statement.{statement}
 use Rattle.state.proofs.lists.keep.Tie as tie
-use Rattle.state.proofs.lists.keep.Reads as reads
-use Rattle.state.proofs.lists.keep.Lts as lts
 
 mul-old : tie.Need-mul-old
 mul-old c = search needs

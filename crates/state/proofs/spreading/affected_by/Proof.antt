@@ -6,10 +6,6 @@ use Rattle.state.proofs.Noting.{lowest-small, Walked, walked-start, wal
 use borrow.Author.Needs.{needs}
 use Rattle.state.proofs.spreading.affected_by.Statement.{statement}
 use Rattle.state.proofs.spreading.affected_by.Tie as tie
-use Rattle.state.proofs.spreading.affected_by.Reads as reads
-use Rattle.state.proofs.spreading.affected_by.Lts as lts
-use Rattle.values.proofs.lowest.Reads as lowest-reads
-use Rattle.values.proofs.without_lowest.Reads as without-lowest-reads
 
 abbrev Inv-loop : tie.InvT-loop
 Inv-loop touching lists changed rules₀ empty₀ rest₀ rules empty rest = Walked touching lists changed rules empty rest

@@ -1,8 +1,8 @@
 -- `state::spreading::note` meets its contract: the first j variables of the scope have the rule. Assumes nothing.
-use Prim.Native.Nat.{_+_, _-_, _≤_, _<_}
-use mathlib.Core.Path.{_≡_, _∙_}
+use Prim.Native.Nat.{_+_, _-_, _≤_}
+use mathlib.Core.Path.{_≡_}
 use native.Mathlib.Omega.{arith}
-use lib.ListN.{length, getD, take}
+use lib.ListN.{length, take}
 use lib.Seq.{take-all}
 use Rattle.meaning.specs.Limits.{variableLimit}
 use Rattle.values.proofs.One.{shl-one}
@@ -13,8 +13,6 @@ use Rattle.state.proofs.Noting.{noted-none, noted-more, scope-small}
 use borrow.Author.Needs.{needs}
 use Rattle.state.proofs.spreading.note.Statement.{statement}
 use Rattle.state.proofs.spreading.note.Tie as tie
-use Rattle.state.proofs.spreading.note.Reads as reads
-use Rattle.state.proofs.spreading.note.Lts as lts
 
 abbrev Inv-loop : tie.InvT-loop
 Inv-loop room start arity k touching₀ j₀ touching j =

@@ -7,9 +7,6 @@ use Rattle.state.proofs.Noting.{placed-scope, touching-none, touching-m
 use borrow.Author.Needs.{needs}
 use Rattle.state.proofs.spreading.rules_on.Statement.{statement}
 use Rattle.state.proofs.spreading.rules_on.Tie as tie
-use Rattle.state.proofs.spreading.rules_on.Reads as reads
-use Rattle.state.proofs.spreading.rules_on.Lts as lts
-use Rattle.state.proofs.spreading.note.Reads as note-reads
 
 abbrev Inv-loop : tie.InvT-loop
 Inv-loop heads room rules touching₀ k₀ touching k = (k ≤ rules) × Touching heads room k touching

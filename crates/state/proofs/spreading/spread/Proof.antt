@@ -1,9 +1,8 @@
 -- `state::spreading::spread` meets its contract: wave after wave, until nothing is due. Assumes nothing.
 use Prim.Native.Nat.{_+_, _*_}
-use mathlib.Core.Path.{_≡_, sym, _∙_}
+use mathlib.Core.Path.{sym, _∙_}
 use mathlib.Core.Bool.{true≢false}
 use mathlib.Core.Logic.{⊎-elim}
-use native.Mathlib.Omega.{arith}
 use Rattle.meaning.specs.Values.{size}
 use Rattle.state.specs.Filter.{weight}
 use Rattle.state.proofs.Sweeping.{changed-small}
@@ -11,13 +10,6 @@ use Rattle.state.proofs.Waves.{Wave, wave-start, due-first, wave-dry, w
 use borrow.Author.Needs.{needs}
 use Rattle.state.proofs.spreading.spread.Statement.{statement}
 use Rattle.state.proofs.spreading.spread.Tie as tie
-use Rattle.state.proofs.spreading.spread.Reads as reads
-use Rattle.state.proofs.spreading.spread.Lts as lts
-use Rattle.state.proofs.spreading.affected_by.Reads as affected-by-reads
-use Rattle.state.proofs.sweeps.filter_rule.Reads as filter-rule-reads
-use Rattle.values.proofs.lowest.Reads as lowest-reads
-use Rattle.values.proofs.without.Reads as without-reads
-use Rattle.values.proofs.without_lowest.Reads as without-lowest-reads
 
 abbrev Inv-loop : tie.InvT-loop
 Inv-loop heads room rules touching due hasty lists₀ rest₀ lists rest = Wave heads room rules hasty lists₀ lists rest

@@ -5,11 +5,6 @@ use Rattle.state.proofs.Dispatch.{is-allowed, ready-allowed, is-forbidd
 use borrow.Author.Needs.{needs}
 use Rattle.state.proofs.sweeps.filter_rule.Statement.{statement}
 use Rattle.state.proofs.sweeps.filter_rule.Tie as tie
-use Rattle.state.proofs.sweeps.filter_rule.Reads as reads
-use Rattle.state.proofs.sweeps.filter_rule.Lts as lts
-use Rattle.state.proofs.allowed.filter.Reads as allowed-filter-reads
-use Rattle.state.proofs.forbidden.filter.Reads as forbidden-filter-reads
-use Rattle.state.proofs.linear.filter_linear.Reads as filter-linear-reads
 
 mul-at : tie.Need-mul-at
 mul-at c = search needs

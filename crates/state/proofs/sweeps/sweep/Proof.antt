@@ -9,9 +9,6 @@ use Rattle.state.specs.Filter.{Sweeping}
 use Rattle.state.proofs.Sweeping.{rules-none, rules-more, sweeping-none, sweeping-more}
 use Rattle.state.proofs.sweeps.sweep.Statement.{statement}
 use Rattle.state.proofs.sweeps.sweep.Tie as tie
-use Rattle.state.proofs.sweeps.sweep.Reads as reads
-use Rattle.state.proofs.sweeps.sweep.Lts as lts
-use Rattle.state.proofs.sweeps.filter_rule.Reads as filter-rule-reads
 
 abbrev Inv-loop : tie.InvT-loop
 Inv-loop heads room rules lists₀ changed₀ k₀ lists changed k =

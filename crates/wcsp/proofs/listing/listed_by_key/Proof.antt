@@ -1,8 +1,7 @@
 -- `wcsp::listing::listed_by_key` meets its contract. Assumes nothing.
 use borrow.Author.Needs.{needs}
-use mathlib.Core.Path.{_≡_, sym, ap, _∙_}
+use mathlib.Core.Path.{sym, ap, _∙_}
 use Prim.Native.Nat.{_*_}
-use native.Mathlib.Omega.{arith}
 use Rattle.wcsp.proofs.Keying.{marked-before, marked-now, not-listed}
 use Rattle.arguments.proofs.Tuples.{part-is}
 use Rattle.tuples.specs.Keys.{keyFrom}

@@ -1,7 +1,6 @@
 -- `wcsp::tables::sort_by` meets its contract. Assumes nothing.
 use mathlib.Core.Path.{sym, ap}
 use mathlib.Core.Bool.{Bool, cond}
-use lib.Dec.{eqb}
 use borrow.Author.Tests.{eq-eqb, ne-eqb}
 use Rattle.meaning.specs.Calls.{allow, forbid}
 use Rattle.wcsp.proofs.tables.sort_by.Statement.{statement}
