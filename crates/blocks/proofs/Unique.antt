@@ -1,10 +1,15 @@
 -- Any two results that a public contract of this crate allows are the same. Assumes nothing.
 use mathlib.Core.Path.{_≡_, sym, _∙_}
+use mathlib.Core.Logic.{inl, inr, ⊎-elim, by-cases}
 use mathlib.Core.List.{List}
 use Prim.Native.Nat.{ℕ, _+_, _*_}
-use lib.ListN.{getD}
+use native.Mathlib.Decide.{ℕ-discrete, decLt}
+use native.Mathlib.Omega.{arith}
+use lib.ListN.{length, getD}
 use lib.Seq.{ext-getD}
 use Rattle.meaning.specs.Limits.{variableLimit}
+use Rattle.meaning.proofs.Digits.{bit-cases, bit-iff, ext-all}
+use Rattle.blocks.specs.Keeping.{Changed, Kept, KeptIn}
 use Rattle.blocks.specs.Blocks.{block, Copied, withBlock, zeroedFrom}
 
 pub list-of-unique : (l : List ℕ) (k x : ℕ) (r s : ℕ) → r ≡ getD (block l k variableLimit) x 0 → s ≡ getD (block l k variableLimit) x 0 → r ≡ s
@@ -19,3 +24,23 @@ put-lists-unique l k left after later h e = h ∙ sym e
 pub clear-after-unique : (l : List ℕ) (k : ℕ) (after later : List ℕ) → after ≡ zeroedFrom l (variableLimit * k + variableLimit) → later ≡ zeroedFrom l (variableLimit * k + variableLimit)
     → after ≡ later
 clear-after-unique l k after later h e = h ∙ sym e
+
+-- ---- keeping a part of a list
+
+pub changed-unique : (L K : List ℕ) (c d : ℕ) → Changed L K c → Changed L K d → c ≡ d
+changed-unique L K c d a b =
+    ext-all c d λ x. bit-iff c d x (λ h. ⊎-elim (λ z. absurd (a .other x h (b .same x z))) (λ k. k) (bit-cases d x))
+    (λ h. ⊎-elim (λ z. absurd (b .other x h (a .same x z))) (λ k. k) (bit-cases c x))
+
+kept-unique : {L : List ℕ} {x m : ℕ} {K M : List ℕ} {c d : ℕ} → Kept L x m K c → Kept L x m M d → (K ≡ M) × (c ≡ d)
+kept-unique {L} {x} {m} {K} {M} {c} {d} a b =
+    let e : K ≡ M = ext-getD 0 K M (a .long ∙ sym (b .long)) λ y i.
+    by-cases (ℕ-discrete y x) (λ q. rw q (ext-all (getD K x 0) (getD M x 0) (λ v. a .here v ∙ sym (b .here v)))) (λ n. a .there y n ∙ sym (b .there y n)) in
+    (e, changed-unique L K c d (a .changed) (rw e (b .changed)))
+
+pub keep-unique : (L : List ℕ) (x m : ℕ) (K M : List ℕ) (c d : ℕ) → KeptIn L x m K c → KeptIn L x m M d → (K ≡ M) × (c ≡ d)
+keep-unique L x m K M c d a b =
+    by-cases (ℕ-discrete (length L) variableLimit)
+    (λ long. by-cases (decLt x variableLimit) (λ l. kept-unique (a .kept l long) (b .kept l long))
+    (λ past. let (e, f) = a .none (inl (omega arith)) in let (g, h) = b .none (inl (omega arith)) in (e ∙ sym g, f ∙ sym h)))
+    (λ short. let (e, f) = a .none (inr short) in let (g, h) = b .none (inr short) in (e ∙ sym g, f ∙ sym h))

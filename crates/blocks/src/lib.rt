@@ -4,6 +4,7 @@ ghost use mathlib.Core.Path.{_≡_};
 ghost use Prim.Native.Nat.{_+_, _*_};
 ghost use lib.ListN.{length, getD};
 ghost use Rattle.meaning.specs.Limits.{variableLimit};
+ghost use Rattle.blocks.specs.Keeping.{KeptIn};
 ghost use Rattle.blocks.specs.Blocks.{block, blockPlaces, Copied, withBlock, zeroedFrom};
 
 // The list of the variable x after k decisions; 0 where there is no such place.
@@ -60,4 +61,17 @@ pub fn clear_after(lists: &mut [u64; 1056], k: usize)
         lists[i] = 0;
         i += 1;
     }
+}
+
+// Keeps of x's list, one of 32, what mask has too. The answer is the set of the variables whose lists change: x or none.
+pub fn keep(lists: &mut [u64], x: usize, mask: u64) -> u64
+    ensures { λ r. ⌜ KeptIn (now (lists .entry)) x mask (now (lists .exit)) r ⌝ }
+{
+    if lists.len() != 32 || 32 <= x {
+        return 0;
+    }
+    let old = lists[x];
+    let new = old & mask;
+    lists[x] = new;
+    if new == old { 0 } else { 1 << x }
 }

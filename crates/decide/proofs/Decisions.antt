@@ -25,8 +25,8 @@ use Rattle.state.specs.declared.Refusal.the-variants.{NoSuchVariable}
 use Rattle.decide.specs.declared.Left.the-variants as Lefts
 use Rattle.decide.specs.declared.DecisionAnswer.{DecisionAnswer}
 use Rattle.decide.specs.declared.DecisionAnswer.the-variants as DecisionAnswers
-use Rattle.state.specs.Layout.{rulesAt}
-use Rattle.state.specs.Filter.{LargestIn}
+use Rattle.filters.specs.Layout.{rulesAt}
+use Rattle.filters.specs.Filter.{LargestIn}
 use Rattle.blocks.specs.Blocks.{block}
 use Rattle.state.specs.Holds.{Holds}
 use Rattle.state.specs.Promises.{Answers, tableOf}
@@ -35,7 +35,8 @@ use Rattle.state.proofs.Answering.{finds, stays, accepts}
 use Rattle.state.proofs.Holding.{current}
 use Rattle.values.proofs.One.{alone-is}
 use Rattle.blocks.proofs.Reading.{block-at, block-length}
-use Rattle.state.proofs.Depths.{first-within, within-first, settled, wide-block, empty-within, same-within}
+use Rattle.filters.proofs.Closing.{empty-within}
+use Rattle.state.proofs.Depths.{first-within, within-first, settled, wide-block, same-within}
 use Rattle.decide.proofs.Blocks.{lists-decided}
 use Rattle.state.proofs.Reading.{rules-held}
 

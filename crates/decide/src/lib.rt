@@ -12,11 +12,11 @@ use blocks::clear_after;
 use blocks::list_of;
 use blocks::lists_after;
 use blocks::put_lists;
+use filters::settled;
 use state::AfterCall;
 use state::Answer;
 use state::Refusal;
 use state::State;
-use state::settled;
 
 // What a pin or a ban answers.
 pub enum DecisionAnswer {

@@ -7,9 +7,9 @@ use native.Mathlib.Omega.{arith}
 use lib.ListN.{length, getD, set, take, replicate}
 use Rattle.meaning.specs.Rules.{Rule}
 use Rattle.meaning.specs.Order.{sorted}
-use Rattle.state.specs.declared.search.Rota.{Rota}
-use Rattle.state.proofs.Taking.{Known}
-use Rattle.state.specs.Search.{Searched}
+use Rattle.search.specs.declared.choices.Rota.{Rota}
+use Rattle.search.proofs.Taking.{Known}
+use Rattle.search.specs.Search.{Searched}
 use Rattle.leximin.specs.Solving.{Named, Climbed}
 use Rattle.leximin.proofs.Profiles.{names-length}
 use Rattle.leximin.proofs.Floors.{Climbing, level, level-of, level-small, level-higher, climb-start, climb-none, climb-higher, climb-on, climb-end}

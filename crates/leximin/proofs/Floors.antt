@@ -20,10 +20,10 @@ use Rattle.meaning.proofs.Assignments.{values-at}
 use Rattle.meaning.proofs.Digits.{has-small}
 use Rattle.meaning.proofs.Solutions.{values-same}
 use Rattle.meaning.proofs.Greedy.{Reaches, then}
-use Rattle.state.specs.Search.{Meets, FirstOf, Searched}
+use Rattle.search.specs.Search.{Meets, FirstOf, Searched}
 use Rattle.leximin.specs.Solving.{Best, Climbed}
 use Rattle.blocks.proofs.Copying.{zeros-at}
-use Rattle.state.proofs.Cells.{mem-at}
+use Rattle.filters.proofs.Cells.{mem-at}
 
 -- ---- thresholds
 

@@ -14,7 +14,7 @@ use Rattle.profile.specs.declared.Sorted.{Sorted}
 use Rattle.profile.specs.Upwards.{SortedUp, padded}
 use Rattle.profile.proofs.Padding.{kept-short}
 use Rattle.leximin.specs.Solving.{Named}
-use Rattle.state.proofs.Cells.{mem-at}
+use Rattle.filters.proofs.Cells.{mem-at}
 use Rattle.blocks.proofs.Copying.{put-front}
 
 module _ (objective : List ℕ) (count : ℕ) (named : Named objective count) where

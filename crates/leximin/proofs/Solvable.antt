@@ -16,13 +16,13 @@ use Rattle.meaning.proofs.Proper.{leaves-proper}
 use Rattle.meaning.proofs.Reach.{_≼_}
 use Rattle.meaning.proofs.Greedy.{Reaches, Greedy, FirstReaching, reaches-iff, greedy-sorted, found-last}
 use Rattle.state.specs.declared.State.{State}
-use Rattle.state.specs.Layout.{rulesAt}
+use Rattle.filters.specs.Layout.{rulesAt}
 use Rattle.blocks.specs.Blocks.{block}
 use Rattle.state.specs.Holds.{Holds}
-use Rattle.state.specs.Search.{Meets}
+use Rattle.search.specs.Search.{Meets}
 use Rattle.leximin.specs.Solving.{Best, Climbed, Settles, SolvedBy}
 use Rattle.state.proofs.Holding.{current}
-use Rattle.state.proofs.Taking.{names, low, high}
+use Rattle.search.proofs.Taking.{names, low, high}
 use Rattle.state.proofs.Reading.{rules-held}
 
 module _ (s : State) (w : Standing) (p : Proper w) (hold : Holds s w) where

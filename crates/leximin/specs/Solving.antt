@@ -17,7 +17,7 @@ use Rattle.leximin.specs.declared.Solved.{Solved}
 use Rattle.leximin.specs.declared.Solved.the-variants as Solveds
 use Rattle.state.specs.Holds.{Holds}
 use Rattle.state.specs.Promises.{tableOf}
-use Rattle.state.specs.Search.{Meets, FirstOf}
+use Rattle.search.specs.Search.{Meets, FirstOf}
 
 -- the number that solving says, 0 where it is not refused
 abbrev pub solvedNumber : Solved → ℕ

@@ -6,16 +6,16 @@ ghost use lib.Seq.{paste};
 ghost use Rattle.meaning.specs.Limits.{variableLimit};
 ghost use Rattle.meaning.specs.Rules.{valuesAt};
 ghost use Rattle.meaning.specs.Order.{sorted};
-ghost use Rattle.state.specs.Layout.{rulesAt};
+ghost use Rattle.filters.specs.Layout.{rulesAt};
 ghost use Rattle.state.specs.Holds.{Reached};
-ghost use Rattle.state.specs.Search.{Given};
+ghost use Rattle.search.specs.Search.{Given};
 ghost use Rattle.leximin.specs.Solving.{Named, Climbed, SolvedBy, Solves};
 use blocks::lists_after;
 use profile::sorted_up;
+use search::Rota;
+use search::first_reaching;
 use state::Refusal;
-use state::Rota;
 use state::State;
-use state::first_reaching;
 
 // What solving answers.
 pub enum Solved {

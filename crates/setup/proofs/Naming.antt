@@ -17,7 +17,7 @@ use Rattle.state.specs.declared.State.{State}
 use Rattle.state.specs.declared.Refusal.the-variants.{NoSuchVariable, WrongLength}
 use Rattle.state.specs.declared.Answer.{Answer}
 use Rattle.state.specs.declared.Answer.the-variants.{Refused}
-use Rattle.state.specs.Layout.{padded}
+use Rattle.filters.specs.Layout.{padded}
 use Rattle.state.specs.Holds.{Holds}
 use Rattle.state.specs.Promises.{Answers, numberOf}
 use Rattle.state.proofs.Answering.{finds, refuses, accepts}

@@ -13,11 +13,11 @@ use Rattle.meaning.specs.Calls.{addVariable, accepted, held}
 use Rattle.meaning.specs.Proper.{Proper}
 use Rattle.meaning.proofs.Steps.{nothing-largest, variable-largest}
 use Rattle.state.specs.declared.State.{State}
-use Rattle.state.specs.Layout.{headsOf, roomOf, padded}
+use Rattle.filters.specs.Layout.{headsOf, roomOf, padded}
 use Rattle.blocks.specs.Blocks.{block}
 use Rattle.state.specs.Holds.{Holds, HoldsLists, upTo}
 use Rattle.blocks.proofs.Copying.{zeros-at}
-use Rattle.state.proofs.Padding.{padded-set, padded-nil}
+use Rattle.filters.proofs.Padding.{padded-set, padded-nil}
 
 -- ---- nothing
 

@@ -5,7 +5,7 @@ ghost use lib.ListN.{length};
 ghost use Rattle.meaning.specs.Limits.{objectiveLimit};
 ghost use Rattle.meaning.specs.Standing.{nothing};
 ghost use Rattle.meaning.specs.Calls.{addVariable, nameObjectives};
-ghost use Rattle.state.specs.Layout.{padded};
+ghost use Rattle.filters.specs.Layout.{padded};
 ghost use Rattle.state.specs.Holds.{Holds, Reached};
 ghost use Rattle.state.specs.Promises.{Answers, numberOf};
 use arguments::any_unknown;

@@ -40,7 +40,7 @@ finds (t ∷ ts) n (inr (e, f)) = ap (λ (b : Bool). cond b (number (t .1)) (fir
 after-refused : (w : Standing) (L : List ℕ) (c : Call) → ¬ (refusal w L c ≡ 0) → after w L c ≡ w
 after-refused w L c n = ap (λ (b : Bool). cond b (accepted w c) w) (ne-eqb (refusal w L c) 0 n)
 
-after-accepted : (w : Standing) (L : List ℕ) (c : Call) → refusal w L c ≡ 0 → after w L c ≡ accepted w c
+pub after-accepted : (w : Standing) (L : List ℕ) (c : Call) → refusal w L c ≡ 0 → after w L c ≡ accepted w c
 after-accepted w L c e = ap (λ (b : Bool). cond b (accepted w c) w) (eq-eqb (refusal w L c) 0 e)
 
 pub refuses : (s : State) (c : Call) (r : Refusal) (a : Answer) (t : State) → (a ≡ Refused r) × (t ≡ s)

@@ -10,10 +10,10 @@ use lib.Seq.{paste, sets}
 use Rattle.meaning.specs.Limits.{ruleLimit, roomLimit, coefficientLimit}
 use Rattle.meaning.specs.Rules.{Rule, linear, scopeOf, room}
 use Rattle.meaning.specs.Calls.{Sort, allow, forbid, held, tuplesOf, ruleOf}
-use Rattle.state.specs.Layout.{shift, joined, sortOf, lastOf, numbersOf, headOf, headsOf, roomOf, padded}
+use Rattle.filters.specs.Layout.{shift, joined, sortOf, lastOf, numbersOf, headOf, headsOf, roomOf, padded}
 use Rattle.state.specs.Writing.{Put, PutHead}
-use Rattle.state.proofs.Padding.{paste-padded, sets-padded, padded-zero}
-use Rattle.state.proofs.Rooms.{AllProper, joined-rows, length-headsOf, length-roomOf, headsOf-more, roomOf-more}
+use Rattle.filters.proofs.Padding.{paste-padded, sets-padded, padded-zero}
+use Rattle.filters.proofs.Rooms.{AllProper, joined-rows, length-headsOf, length-roomOf, headsOf-more, roomOf-more}
 
 -- numbers put behind the list in a padded room
 put-behind : (l more before after : List ℕ) (at : ℕ) → length l ≡ at → before ≡ padded roomLimit l → Put before at more after → after ≡ padded roomLimit (l ++ more)

@@ -1,6 +1,6 @@
 -- Lists of the variables, in more places than there are variables: what they leave, and when they are closed. Assumes nothing.
 use mathlib.Core.Path.{_≡_, sym, _∙_}
-use mathlib.Core.Logic.{_⊎_, inl, ⊎-elim, by-cases}
+use mathlib.Core.Logic.{inl, by-cases}
 use mathlib.Core.List.{List, []}
 use Prim.Native.Nat.{ℕ, _-_, _≤_, _<_}
 use native.Mathlib.Decide.{decLt}
@@ -12,10 +12,9 @@ use Rattle.meaning.specs.Rules.{Rule}
 use Rattle.meaning.specs.Standing.{Standing}
 use Rattle.meaning.specs.Lists.{Closed, Largest}
 use Rattle.meaning.specs.Proper.{Proper}
-use Rattle.meaning.proofs.Digits.{zero-bit, bit-cases, ext-all}
 use Rattle.meaning.proofs.Largest.{_⊑_, Between, supported-mono, within-mono}
 use Rattle.meaning.proofs.Solutions.{left-below}
-use Rattle.state.specs.Filter.{LargestIn}
+use Rattle.filters.specs.Filter.{LargestIn}
 use Rattle.blocks.specs.Blocks.{block}
 use Rattle.state.specs.Holds.{HoldsLists}
 use Rattle.blocks.proofs.Reading.{block-at, block-length}
@@ -45,12 +44,6 @@ settled {w} {B} {C} {K} {M} b m bc cb km mk e = record {
   closed = closed-same {K = K} {M = M} km mk (m .closed);
   most = λ J h shut x v k. mk x v (m .most J (λ y u l. cb y u (b .most J h shut y u l)) shut x v k);
 }
-
--- lists within others that are empty somewhere are empty there
-pub empty-within : (K L : List ℕ) (x : ℕ) → K ⊑ L → getD L x 0 ≡ 0 → getD K x 0 ≡ 0
-empty-within K L x sub e =
-    ext-all (getD K x 0) 0 λ v.
-    ⊎-elim (λ z. z ∙ sym (zero-bit v)) (λ h. absurd (let k = rw e at (sub x v h) in let z = zero-bit v in omega arith)) (bit-cases (getD K x 0) v)
 
 -- lists with the same numbers leave the same
 pub same-within : (K L : List ℕ) → ((x : ℕ) → getD K x 0 ≡ getD L x 0) → K ⊑ L

@@ -2,7 +2,7 @@
 use mathlib.Core.Path.{_≡_, refl, sym, ap, _∙_}
 use mathlib.Core.Logic.{_⊎_, inr, ⊎-elim, by-cases}
 use mathlib.Core.List.{List, [], _∷_, _++_, map}
-use Prim.Native.Nat.{ℕ, zero, suc, _+_, _-_, _*_, _/_, _^_, _≤_, _<_}
+use Prim.Native.Nat.{ℕ, zero, suc, _+_, _-_, _*_, _/_, _≤_, _<_}
 use native.Mathlib.Nat.{div-add-mod', mul-comm, mul-le-mul-left, mul-one}
 use native.Mathlib.Decide.{ℕ-discrete}
 use native.Mathlib.Omega.{arith}
@@ -10,14 +10,13 @@ use lib.IntN.{ℤ}
 use lib.ListN.{length, getD, take, drop, length-append, length-take, List·getD-eq-default}
 use lib.Seq.{paste, length-paste, length-take-le, take-at, take-length, take-append-le, take-take}
 use Rattle.meaning.specs.Limits.{variableLimit, ruleLimit, roomLimit, coefficientLimit, boundLimit}
-use Rattle.meaning.specs.Values.{bit, Has, Lacks}
 use Rattle.meaning.specs.Rules.{Rule, linear, scopeOf, room}
 use Rattle.meaning.specs.Standing.{Standing}
 use Rattle.meaning.specs.Lists.{Largest}
 use Rattle.meaning.specs.Calls as Calls
 use Rattle.meaning.specs.Calls.{Call, tuplesOf, ruleOf, held, withRule, refusal, accepted}
+use Rattle.meaning.specs.Histories.{Leaves, call}
 use Rattle.meaning.specs.Proper.{Proper}
-use Rattle.meaning.proofs.Digits.{bit-pow-same, bit-pow-other}
 use Rattle.meaning.proofs.Proper.{leaves-proper, accepted-proper, number-above, rows-count, held-more}
 use Rattle.meaning.proofs.Steps.{rule-between}
 use Rattle.state.specs.declared.State.{State}
@@ -26,22 +25,22 @@ use Rattle.state.specs.declared.Answer.{Answer}
 use Rattle.state.specs.declared.Answer.the-variants.{Accepted, Refused}
 use Rattle.state.specs.declared.Sort.{Sort}
 use Rattle.state.specs.declared.Sort.the-variants.{Allow, Forbid}
-use Rattle.state.specs.Layout.{shift, sortOf, lastOf, roomOf, padded, rulesAt, ruleAt}
-use Rattle.state.specs.Filter.{LargestIn}
-use Rattle.state.specs.Spreading.{ClosedBy}
+use Rattle.filters.specs.Layout.{shift, sortOf, lastOf, roomOf, padded, rulesAt, ruleAt}
+use Rattle.filters.specs.Filter.{Filtering, LargestIn}
+use Rattle.filters.specs.Filter.{ClosedBy}
 use Rattle.state.specs.Writing.{Put, PutHead}
 use Rattle.blocks.specs.Blocks.{block}
 use Rattle.state.specs.Holds.{Holds, HoldsLists, Reached, upTo}
 use Rattle.state.specs.Promises.{Answers, sortSaid, numberOf, tableOf}
 use Rattle.state.specs.Additions.{sortNumber, TableFits, LinearFits, LaidOut, Extends, Followable, Followed, Counted}
-use Rattle.state.proofs.Answering.{stays, accepts}
+use Rattle.state.proofs.Answering.{after-accepted, stays, accepts}
 use Rattle.state.proofs.Holding.{current, none-of}
 use Rattle.blocks.proofs.Reading.{block-length}
-use Rattle.state.proofs.Depths.{wide-block, settled, first-within, within-first, empty-within, same-within}
+use Rattle.filters.proofs.Closing.{follows-none, follows-some, empty-within}
+use Rattle.state.proofs.Depths.{wide-block, settled, first-within, within-first, same-within}
 use Rattle.blocks.proofs.Copying.{paste-in, paste-after}
-use Rattle.state.proofs.Reading.{first-rules}
-use Rattle.state.proofs.ReadBack as ReadBack
-use Rattle.state.proofs.Waves.{closed-kept, closed-by-each}
+use Rattle.filters.proofs.Laid.{first-rules}
+use Rattle.filters.proofs.Closing.{closed-kept, closed-by-each}
 use Rattle.state.proofs.Behind.{head-added, table-added, linear-added}
 
 -- ---- the rule's place
@@ -175,22 +174,17 @@ module _ (s t : State) (w : Standing) (r : Rule) (p : Proper w) (q : Proper (wit
       ∙ first-rules (w .rules ++ (r ∷ [])) (q .rules) (t .heads) (t .room) (l .heads) (l .room) (length (w .rules ++ (r ∷ []))) (omega arith)
       ∙ take-length (w .rules ++ (r ∷ []))
 
-  pub followable : Followable t (s .rules)
+  pub followable : {g : List Call} → Leaves g (withRule w r) → Followable t (s .rules)
   unfolding wide narrow
-  followable = record {
+  followable {g} later = record {
+    held = (g, withRule w r, later, record { count = l .rules; heads-are = l .heads; room-is = l .room });
     lists = ap length (l .lists) ∙ hold .lists .long;
-    few = omega (arith, l .rules, q .count);
-    placed = λ k i. ReadBack.placed (w .rules ++ (r ∷ [])) (q .rules) (t .heads) (t .room) (l .heads) (l .room) (q .variables) (q .count) (q .room) k (omega (arith, l .rules));
-    due = rw (l .lists) (record { known = known; others = others });
-    known = omega (arith, count, l .rules, q .count, hold .rules);
+    known = omega (arith, count, hold .rules);
+    others = rw (l .lists) others;
   }
     where
-      known : (k : ℕ) → Has (2 ^ s .rules) k → k < t .rules
-      known k h = by-cases (ℕ-discrete k (s .rules)) (λ e. omega (arith, count, hold .rules)) (λ d. absurd (let z = bit-pow-other (s .rules) k d in omega arith))
-
-      others : (k : ℕ) → k < t .rules → Lacks (2 ^ s .rules) k → ClosedBy (ruleAt (t .heads) (t .room) k) wide
-      others k i none-due =
-          let d : ¬ (k ≡ s .rules) = λ e. let z = ap (bit (2 ^ s .rules)) e ∙ bit-pow-same (s .rules) in omega arith in
+      others : (k : ℕ) → k < t .rules → ¬ (k ≡ s .rules) → ClosedBy (ruleAt (t .heads) (t .room) k) wide
+      others k i d =
           closed-kept narrow wide (λ y m. same y)
           (closed-by-each (t .heads) (t .room) narrow (length (w .rules)) (rw old-rules (now-left .closed)) k (omega (arith, count, hold .rules)))
 
@@ -267,9 +261,23 @@ module _ (s t : State) (w : Standing) (r : Rule) (p : Proper w) (q : Proper (wit
         })
 
 -- as the code comes by it: from a copy of the block, and what is written back
-pub followed-by : (s : State) (b M l : List ℕ) → b ≡ block (s .lists) 0 variableLimit → LargestIn (rulesAt (s .heads) (s .room) (s .rules)) b M
-    → l ≡ paste (s .lists) (variableLimit * 0) M variableLimit → Followed s (withLists s l)
-followed-by s b M l eb largest el = record { left = M; largest = rw eb at largest; is = ap (withLists s) el }
+module _ (s : State) (k : ℕ) (ready : Followable s k) (b K l : List ℕ) (c : ℕ) (eb : b ≡ block (s .lists) 0 variableLimit) (f : Filtering (ruleAt (s .heads) (s .room) k) b K c) where
+  closed-before : (j : ℕ) → j < s .rules → ¬ (j ≡ k) → ClosedBy (ruleAt (s .heads) (s .room) j) b
+  closed-before j h d = rw eb (ready .others j h d)
+
+  pub followed-none : c ≡ 0 → l ≡ paste (s .lists) (variableLimit * 0) K variableLimit → Followed s (withLists s l)
+  followed-none z el = record {
+    left = K;
+    largest = rw eb at (follows-none (s .heads) (s .room) (s .rules) k (ready .known) closed-before f z);
+    is = ap (withLists s) el;
+  }
+
+  pub followed-some : (M : List ℕ) → LargestIn (rulesAt (s .heads) (s .room) (s .rules)) K M → l ≡ paste (s .lists) (variableLimit * 0) M variableLimit → Followed s (withLists s l)
+  followed-some M m el = record {
+    left = M;
+    largest = rw eb at (follows-some (s .heads) (s .room) (s .rules) k (ready .known) closed-before f M m);
+    is = ap (withLists s) el;
+  }
 
 -- ---- the answers
 
@@ -283,7 +291,10 @@ module _ (s : State) (c : Call) (r : Rule) (accepted-is : (w : Standing) → acc
     proper-with w L p hold = rw (accepted-is w) at (accepted-proper w p L c (right w L (counted hold) ∙ ap numberOf taken))
 
     pub added-followable : Reached s → Followable t (s .rules)
-    added-followable (h, w, l, hold) = followable s t w r (leaves-proper l) (proper-with w [] (leaves-proper l) hold) hold free (laid-out h w l hold)
+    added-followable (h, w, l, hold) =
+        let most = current hold in
+        let later = rw (after-accepted w _ c (right w _ (counted hold) ∙ ap numberOf taken), accepted-is w) at (call c l most) in
+        followable s t w r (leaves-proper l) (proper-with w [] (leaves-proper l) hold) hold free (laid-out h w l hold) later
 
     pub added-answers : (u : State) → Followed t u → Answers s c (numberOf a) u
     added-answers u f =

@@ -12,7 +12,7 @@ use lib.ListN.{length, getD, set, length-map, List·getD-map}
 use lib.Seq.{paste, paste-suc, length-paste, sets, length-sets}
 use Rattle.meaning.specs.Limits.{ruleLimit, coefficientLimit}
 use Rattle.meaning.specs.Proper.{Around}
-use Rattle.state.specs.Layout.{shift}
+use Rattle.filters.specs.Layout.{shift}
 use Rattle.state.specs.Writing.{Fitting, Put, InRange, PutHead}
 use Rattle.arguments.proofs.Limits.{as-read}
 

@@ -1,20 +1,17 @@
 -- Demand 1: two results that a public contract allows are equal. Assumes nothing.
 use mathlib.Core.Path.{_≡_, refl, sym, ap, _∙_}
-use mathlib.Core.Bool.{Bool, true, false}
-use mathlib.Core.Logic.{inl, inr, ⊎-elim, by-cases}
+use mathlib.Core.Logic.{inl, inr, by-cases}
 use mathlib.Core.List.{List, [], _∷_}
 use Prim.Native.Nat.{ℕ, _+_, _-_, _*_, _/_, _%_, _<_}
 use native.Mathlib.Decide.{decLt, decLe}
 use native.Mathlib.Omega.{arith}
-use lib.ListN.{length, getD, take}
-use lib.Seq.{ext-getD, getD-take}
+use lib.ListN.{length, getD}
+use lib.Seq.{ext-getD}
 use Rattle.meaning.specs.Limits.{variableLimit}
 use Rattle.meaning.specs.Refusals.{number}
 use Rattle.meaning.specs.Standing.{Standing}
 use Rattle.meaning.specs.Calls.{Call}
-use Rattle.meaning.specs.Rules.{Rule}
-use Rattle.meaning.proofs.Largest.{largest-unique, same-lists}
-use Rattle.meaning.proofs.Leximin.{≺-tri}
+use Rattle.meaning.proofs.Largest.{largest-unique}
 use Rattle.meaning.proofs.Proper.{number-above}
 use Rattle.state.specs.declared.State.{State}
 use Rattle.state.specs.declared.Refusal.{Refusal}
@@ -22,8 +19,6 @@ use Rattle.state.specs.declared.Refusal.the-variants.{NoSuchVariable, Va
 use Rattle.state.specs.declared.Answer.{Answer}
 use Rattle.state.specs.declared.Answer.the-variants.{Accepted, Refused}
 use Rattle.state.specs.Holds.{Holds, HoldsLists, Reached}
-use Rattle.state.specs.Filter.{LargestIn}
-use Rattle.state.specs.Search.{Meets, FirstOf, Searched}
 use Rattle.state.specs.Promises.{Answers, numberOf, tableOf}
 use Rattle.state.proofs.Holding.{current}
 use Rattle.blocks.proofs.Reading.{block-at}
@@ -112,29 +107,3 @@ module _ {s : State} (reached : Reached s) where
   -- the same for the answers that the code gives
   pub answers-unique : (c : Call) {a b : Answer} {t u : State} → Answers s c (numberOf a) t → Answers s c (numberOf b) u → (a ≡ b) × (t ≡ u)
   answers-unique c {a} {b} x y = let (e, f) = call-unique c x y in (answer-unique a b e, f)
-
--- ---- filtering and searching
-
-pub settled-unique : (rules : List Rule) (lists r q : List ℕ) → LargestIn rules lists r → LargestIn rules lists q → r ≡ q
-settled-unique rules lists r q a b =
-    same-lists (a .long ∙ sym (b .long)) (b .most r (a .within) (a .closed)) (a .most q (b .within) (b .closed))
-
-module _ {rules : List Rule} {objectives y : List ℕ} {n : ℕ} {L : List ℕ} where
-  first-unique : {a b : List ℕ} → FirstOf (Meets rules objectives y n L) a → FirstOf (Meets rules objectives y n L) b → a ≡ b
-  first-unique {a} {b} p q =
-      ⊎-elim (λ h. absurd (q .first a (p .holds) h)) (⊎-elim (λ e. e) (λ h. absurd (p .first b (q .holds) h)))
-      (≺-tri a b (p .holds .long ∙ sym (q .holds .long)))
-
-  pub first-reaching-unique : (found got : Bool) (out next : List ℕ) → Searched rules objectives y n L found out → Searched rules objectives y n L got next
-      → (found ≡ got) × (out ≡ next)
-  first-reaching-unique true true out next a b =
-      let e : take n out ≡ take n next = first-unique (a .first refl) (b .first refl) in (
-        refl,
-        ext-getD 0 out next (a .blank .long ∙ sym (b .blank .long)) λ x i.
-            by-cases (decLt x n) (λ l. sym (getD-take n out x 0 l) ∙ ap (λ (u : List ℕ). getD u x 0) e ∙ getD-take n next x 0 l)
-            (λ l. a .blank .past x (inr (omega arith)) ∙ sym (b .blank .past x (inr (omega arith)))),
-      )
-  first-reaching-unique true false out next a b = absurd (b .none refl (take n out) (a .first refl .holds))
-  first-reaching-unique false true out next a b = absurd (a .none refl (take n next) (b .first refl .holds))
-  first-reaching-unique false false out next a b =
-      (refl, ext-getD 0 out next (a .blank .long ∙ sym (b .blank .long)) (λ x i. a .blank .past x (inl refl) ∙ sym (b .blank .past x (inl refl))))

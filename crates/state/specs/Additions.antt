@@ -1,7 +1,7 @@
 -- What adding a rule is made of: its tests, its place behind the others, and the lists that follow.
 use mathlib.Core.Path.{_≡_}
 use mathlib.Core.List.{List}
-use Prim.Native.Nat.{ℕ, _+_, _*_, _%_, _^_, _≤_, _<_}
+use Prim.Native.Nat.{ℕ, _+_, _*_, _%_, _≤_, _<_}
 use lib.IntN.{ℤ}
 use lib.ListN.{length}
 use lib.Seq.{paste}
@@ -16,10 +16,10 @@ use Rattle.blocks.specs.Blocks.{block, blockPlaces}
 use Rattle.state.specs.declared.State.{State}
 use Rattle.state.specs.declared.Sort.{Sort}
 use Rattle.state.specs.declared.Sort.the-variants.{Allow, Forbid}
-use Rattle.state.specs.Layout.{headsOf, roomOf, padded, rulesAt, AllPlaced}
-use Rattle.state.specs.Filter.{LargestIn}
+use Rattle.filters.specs.Layout.{headsOf, roomOf, padded, ruleAt, rulesAt}
+use Rattle.filters.specs.Filter.{ClosedBy, LargestIn}
+use Rattle.filters.specs.Held.{RulesOf}
 use Rattle.state.specs.Writing.{InRange}
-use Rattle.state.specs.Spreading.{Due}
 use Rattle.state.specs.Holds.{Holds}
 
 abbrev pub sortNumber : Sort → ℕ
@@ -85,11 +85,10 @@ Extends s r t = (h : List Call) (w : Standing) → Leaves h w → Holds s w → 
 
 -- the lists of depth 0 are closed by every rule but the k-th
 pub record Followable (s : State) (k : ℕ) : Type 0 where
-  pub few : s .rules ≤ ruleLimit
+  pub held : RulesOf (s .heads) (s .room) (s .rules)
   pub lists : length (s .lists) ≡ blockPlaces
-  pub placed : AllPlaced (s .heads) (s .room) (s .rules)
-  pub due : Due (s .heads) (s .room) (s .rules) (block (s .lists) 0 variableLimit) (2 ^ k)
-  pub known : k < ruleLimit
+  pub known : k < s .rules
+  pub others : (j : ℕ) → j < s .rules → ¬ (j ≡ k) → ClosedBy (ruleAt (s .heads) (s .room) j) (block (s .lists) 0 variableLimit)
 
 -- they are the largest closed lists within those
 pub record Followed (s t : State) : Type 0 where

@@ -11,7 +11,7 @@ use Rattle.meaning.specs.Calls.{Call, held, withDecisions}
 use Rattle.meaning.specs.Histories.{Leaves}
 use Rattle.blocks.specs.Blocks.{block, blockPlaces}
 use Rattle.state.specs.declared.State.{State}
-use Rattle.state.specs.Layout.{headsOf, roomOf, padded}
+use Rattle.filters.specs.Layout.{headsOf, roomOf, padded}
 
 -- what stood after the first k decisions; a newly named objective vector stays
 abbrev pub upTo : Standing → ℕ → Standing
@@ -37,7 +37,3 @@ pub record Holds (s : State) (w : Standing) : Type 0 where
 -- the state is one that calls on a new state have left
 abbrev pub Reached : State → Type 0
 Reached s = (h : List Call) × (w : Standing) × Leaves h w × Holds s w
-
--- the rules are those of such a state
-abbrev pub RulesOf : List ℕ → List ℕ → ℕ → Type 0
-RulesOf heads room rules = (s : State) × Reached s × (s .heads ≡ heads) × (s .room ≡ room) × (s .rules ≡ rules)

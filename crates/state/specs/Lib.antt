@@ -1,14 +1,6 @@
-pub mod Layout
-pub mod Filter
-pub mod Tables
-pub mod Sifting
-pub mod Linear
-pub mod Spreading
-pub mod Holds
-pub mod Search
-pub mod Thresholds
-pub mod Choosing
+-- The definitions that the contracts of `state` cite.
 pub mod Writing
+pub mod Holds
 pub mod Promises
 pub mod Additions
 pub mod Runs

@@ -14,8 +14,6 @@ use crate::Answer;
 use crate::Refusal;
 use crate::Sort;
 use crate::State;
-use crate::spreading::rules_on;
-use crate::spreading::spread;
 use crate::writing::put_bytes;
 use crate::writing::put_head;
 use crate::writing::put_shifted;
@@ -28,6 +26,8 @@ use arguments::beyond_bound;
 use arguments::tuple_twice;
 use blocks::lists_after;
 use blocks::put_lists;
+use filters::filter_rule;
+use filters::settled;
 
 // One table more: its variables, and its tuples' values one after the other.
 pub fn add_table(s: State, sort: Sort, scope: &[u8], cells: &[u8]) -> AfterCall
@@ -214,17 +214,10 @@ fn followed(s: State, k: usize) -> State
 {
     let mut t = s;
     let rules = t.rules;
-    let touching = rules_on(&t.heads, &t.room, rules);
     let mut left = lists_after(&t.lists, 0);
-    spread(
-        &t.heads,
-        &t.room,
-        rules,
-        &touching,
-        values::only(k),
-        false,
-        &mut left,
-    );
+    if filter_rule(&t.heads, &t.room, rules, k, &mut left) != 0 {
+        left = settled(&t.heads, &t.room, rules, left);
+    }
     put_lists(&mut t.lists, 0, left);
     t
 }

@@ -1,23 +1,9 @@
-// The rota state: adding rules, filtering and search.
-
+// The rota state, and adding rules to it.
 mod adding;
-mod allowed;
-mod forbidden;
-mod linear;
-mod lists;
-mod nodes;
-mod search;
-mod spreading;
-mod sweeps;
-mod tables;
-mod thresholds;
 mod writing;
 
 pub use adding::add_linear;
 pub use adding::add_table;
-pub use search::Rota;
-pub use search::first_reaching;
-pub use sweeps::settled;
 
 // What stands, laid out in flat arrays: counts, and zeros past them.
 pub struct State {

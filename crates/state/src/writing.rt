@@ -7,7 +7,7 @@ ghost use mathlib.Core.List.{map};
 ghost use lib.ListN.{length};
 ghost use Rattle.meaning.specs.Limits.{ruleLimit, roomLimit, coefficientLimit, boundLimit};
 ghost use Rattle.meaning.specs.Proper.{Around};
-ghost use Rattle.state.specs.Layout.{shift};
+ghost use Rattle.filters.specs.Layout.{shift};
 ghost use Rattle.state.specs.Writing.{Fitting, Put, InRange, PutHead};
 
 // Writes variables or values into the room, from a place on.

@@ -9,9 +9,9 @@ use native.Mathlib.Omega.{arith}
 use lib.ListN.{length, set, take, drop, length-set, length-append, take-append-drop}
 use lib.Seq.{take-add, take-set-le}
 use Rattle.meaning.specs.Calls.{rows}
-use Rattle.state.specs.Layout.{joined}
-use Rattle.state.proofs.Rooms.{rows-joined}
-use Rattle.state.proofs.Cells.{part-long}
+use Rattle.filters.specs.Layout.{joined}
+use Rattle.filters.proofs.Rooms.{rows-joined}
+use Rattle.filters.proofs.Cells.{part-long}
 use Rattle.wcsp.specs.Steps.{Behind, Filled}
 
 pub product-most : (a b v : ℕ) → a ≤ b → a * v ≤ b * v

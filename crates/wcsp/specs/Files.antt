@@ -7,7 +7,7 @@ use lib.ListN.{length, getD}
 use Rattle.meaning.specs.Limits.{variableLimit, valueLimit, ruleLimit, roomLimit, arityLimit}
 use Rattle.meaning.specs.Refusals.{Refusal, noSuchVariable, variableTwice, wrongLength, outOfRange, tupleTwice, full}
 use Rattle.meaning.specs.Calls.{Call, Sort, allow, forbid, addVariable, addTable, some, same}
-use Rattle.state.specs.Layout.{joined}
+use Rattle.filters.specs.Layout.{joined}
 use Rattle.text.specs.Words.{tokenStart}
 use Rattle.wcsp.specs.Reading.{Reading, fault, got, next, Tests, anyNumber, range, judged, number, name, several, ended, times}
 

@@ -9,7 +9,7 @@ use Rattle.meaning.specs.Refusals as Numbers
 use Rattle.tuples.specs.Keys.{keyLimit, Marked}
 use Rattle.state.specs.declared.Refusal.{Refusal}
 use Rattle.state.specs.Promises.{tableOf, sortSaid}
-use Rattle.state.specs.Layout.{joined}
+use Rattle.filters.specs.Layout.{joined}
 use Rattle.wcsp.specs.declared.Step.{Step}
 use Rattle.wcsp.specs.declared.Step.the-variants.{Fault, Read}
 use Rattle.wcsp.specs.declared.tables.Table as Kept

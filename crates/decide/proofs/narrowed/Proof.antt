@@ -5,6 +5,7 @@ use native.Mathlib.Omega.{arith}
 use Rattle.blocks.proofs.Reading.{copied-is}
 use Rattle.blocks.proofs.Writing.{with-block}
 use Rattle.state.proofs.Holding.{sizes}
+use Rattle.state.proofs.Reading.{reached-rules}
 use Rattle.decide.proofs.Decisions.{narrows-by}
 use borrow.Author.Needs.{needs}
 use Rattle.decide.proofs.narrowed.Statement.{statement}
@@ -20,7 +21,7 @@ array-write-left : tie.Need-array-write-left
 array-write-left c = let z = sizes (c .before .before .before .pre .0) in search needs
 
 settled-requires : tie.Need-settled-requires
-settled-requires c κs = search needs
+settled-requires c κs = reached-rules (c .before .before .before .before .before .before .before .before .pre .0)
 
 add-put-lists : tie.Need-add-put-lists
 add-put-lists c = search needs

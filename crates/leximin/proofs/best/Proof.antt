@@ -4,8 +4,8 @@ use lib.ListN.{take}
 use borrow.Author.Tests.{not-true, not-false}
 use mir.Syntax.{w64}
 use Rattle.blocks.proofs.Arrays.{array-fits}
-use Rattle.state.specs.Layout.{rulesAt}
-use Rattle.state.proofs.Taking.{given-known}
+use Rattle.filters.specs.Layout.{rulesAt}
+use Rattle.search.proofs.Taking.{given-known}
 use Rattle.leximin.proofs.Climbs.{Underway, ahead, names, begins, begins-none, ends, small, rises, rises-less, goes-on, goes-on-less}
 use borrow.Author.Needs.{needs}
 use Rattle.leximin.proofs.best.Statement.{statement}

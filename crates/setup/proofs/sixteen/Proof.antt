@@ -5,7 +5,7 @@ use lib.ListN.{length, replicate}
 use lib.Seq.{paste, paste-zero}
 use Rattle.meaning.specs.Limits.{objectiveLimit}
 use Rattle.blocks.proofs.Copying.{put-front}
-use Rattle.state.proofs.Padding.{put-zeros}
+use Rattle.filters.proofs.Padding.{put-zeros}
 use borrow.Author.Needs.{needs}
 use Rattle.setup.proofs.sixteen.Statement.{statement}
 use Rattle.setup.proofs.sixteen.Tie as tie

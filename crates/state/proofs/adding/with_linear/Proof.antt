@@ -2,7 +2,7 @@
 use mathlib.Core.Path.{_∙_, ap}
 use mir.Facts.{toZ-ofZ}
 use Rattle.meaning.specs.Limits.{boundLimit}
-use Rattle.state.specs.Layout.{shift}
+use Rattle.filters.specs.Layout.{shift}
 use Rattle.state.proofs.Extending.{linear-laid}
 use borrow.Author.Needs.{needs}
 use Rattle.state.proofs.adding.with_linear.Statement.{statement}

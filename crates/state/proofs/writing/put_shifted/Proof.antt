@@ -8,7 +8,7 @@ use lib.IntN.{pos}
 use lib.ListN.{length, length-map}
 use lib.Seq.{paste, paste-zero}
 use Rattle.meaning.specs.Limits.{coefficientLimit}
-use Rattle.state.specs.Layout.{shift}
+use Rattle.filters.specs.Layout.{shift}
 use Rattle.state.proofs.Putting.{put-next, put-all, coefficient-near, kept-at, fitting-kept}
 use Rattle.state.proofs.writing.put_shifted.Statement.{statement}
 use Rattle.state.proofs.writing.put_shifted.Tie as tie

@@ -2,7 +2,7 @@
 use mir.Syntax.{w32}
 use lib.Dec.{lit<}
 use Rattle.meaning.specs.Limits.{boundLimit}
-use Rattle.state.proofs.Shifts.{sum-fits, sum-casts, sum-kept}
+use Rattle.filters.proofs.Shifts.{sum-fits, sum-casts, sum-kept}
 use Rattle.state.proofs.writing.shifted_bound.Statement.{statement}
 use Rattle.state.proofs.writing.shifted_bound.Tie as tie
 

@@ -2,7 +2,7 @@
 use mir.Syntax.{w16}
 use lib.Dec.{lit<}
 use Rattle.meaning.specs.Limits.{coefficientLimit}
-use Rattle.state.proofs.Shifts.{sum-fits, sum-casts, sum-kept}
+use Rattle.filters.proofs.Shifts.{sum-fits, sum-casts, sum-kept}
 use Rattle.state.proofs.writing.shifted_coefficient.Statement.{statement}
 use Rattle.state.proofs.writing.shifted_coefficient.Tie as tie
 

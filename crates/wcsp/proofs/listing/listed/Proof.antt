@@ -8,7 +8,7 @@ use borrow.Author.Needs.{needs}
 use lib.ListN.{take, drop}
 use Rattle.wcsp.proofs.Heaping.{row-inside}
 use Rattle.arguments.proofs.Tuples.{part-is}
-use Rattle.state.proofs.Cells.{row-at}
+use Rattle.filters.proofs.Cells.{row-at}
 use Rattle.arguments.proofs.Searching.{some-steps, found-at, passed-at, missed-at}
 use Rattle.meaning.proofs.Proper.{rows-count}
 use Rattle.meaning.specs.Calls.{some, same, rows}

@@ -1,0 +1,26 @@
+-- The laws of filtering, for the proofs of this crate and of the crates that use it.
+pub mod Filling
+pub mod Cells
+pub mod Places
+pub mod Narrowing
+pub mod Passes
+pub mod Ways
+pub mod Walking
+pub mod Tallies
+pub mod Supporting
+pub mod Sifting
+pub mod Turns
+pub mod LinearRoom
+pub mod Nearness
+pub mod Terms
+pub mod Summing
+pub mod Slack
+pub mod Dispatch
+pub mod Sweeping
+pub mod Closing
+pub mod Padding
+pub mod Shifts
+pub mod Rooms
+pub mod ReadBack
+pub mod Laid
+pub mod Unique
