@@ -15,31 +15,31 @@ pub(crate) fn narrow<'a>(
     heads: &'a [u32],
     room: &'a [u16],
     rules: usize,
-    touching: &[u64],
-    objective: &[u8],
+    sets: &[u64],
+    goals: &[u8],
     count: usize,
     floors: &[u8],
     n: usize,
     due: u64,
     lists: &mut [u64],
 ) -> bool
-    requires { ⌜ Net (now heads) (now room) rules (now touching) (now objective) count n ⌝ }
+    requires { ⌜ Net (now heads) (now room) rules (now sets) (now goals) count n ⌝ }
     requires { ⌜ (length (now floors) ≡ objectiveLimit) × (length (now lists) ≡ variableLimit) × ((x : ℕ) → x < n → ¬ (getD (now lists) x 0 ≡ 0)) ⌝ }
     requires { ⌜ Due (now heads) (now room) rules (now lists) due ⌝ }
-    ensures { λ r. ⌜ Sieved (rulesAt (now (heads .entry)) (now (room .entry)) rules) (take count (now (objective .entry))) (take count (now (floors .entry))) n (now (lists .entry)) r (now (lists .exit)) ⌝ }
+    ensures { λ r. ⌜ Sieved (rulesAt (now (heads .entry)) (now (room .entry)) rules) (take count (now (goals .entry))) (take count (now (floors .entry))) n (now (lists .entry)) r (now (lists .exit)) ⌝ }
 {
     let mut rest = due;
     loop {
-        if !spread(heads, room, rules, touching, rest, lists) {
+        if !spread(heads, room, rules, sets, rest, lists) {
             return false;
         }
-        let verdict = raise(objective, count, floors, lists);
+        let verdict = raise(goals, count, floors, lists);
         if !verdict.alive {
             return false;
         }
         if verdict.changed == 0 {
             return true;
         }
-        rest = affected_by(touching, lists, verdict.changed).rules;
+        rest = affected_by(sets, lists, verdict.changed).rules;
     }
 }

@@ -44,16 +44,16 @@ fn note(room: &[u16], start: usize, arity: usize, k: usize, touching: &mut [u64]
 }
 
 // Goes through the changed variables.
-pub(crate) fn affected_by(touching: &[u64], lists: &[u64], changed: u64) -> Affected
-    requires { ⌜ (length (now touching) ≡ variableLimit) × (length (now lists) ≡ variableLimit) × InVariables changed ⌝ }
-    ensures { λ r. ⌜ AffectedBy (now (touching .entry)) (now (lists .entry)) changed r ⌝ }
+pub(crate) fn affected_by(sets: &[u64], lists: &[u64], changed: u64) -> Affected
+    requires { ⌜ (length (now sets) ≡ variableLimit) × (length (now lists) ≡ variableLimit) × InVariables changed ⌝ }
+    ensures { λ r. ⌜ AffectedBy (now (sets .entry)) (now (lists .entry)) changed r ⌝ }
 {
     let mut rules: u64 = 0;
     let mut empty = false;
     let mut rest = changed;
     while rest != 0 {
         let x = values::lowest(rest);
-        rules |= touching[x];
+        rules |= sets[x];
         if lists[x] == 0 {
             empty = true;
         }
@@ -67,12 +67,12 @@ pub(crate) fn spread<'a>(
     heads: &'a [u32],
     room: &'a [u16],
     rules: usize,
-    touching: &[u64],
+    sets: &[u64],
     due: u64,
     lists: &mut [u64],
 ) -> bool
     requires { ⌜ RulesOf (now heads) (now room) rules ⌝ }
-    requires { ⌜ Touching (now heads) (now room) rules (now touching) × (length (now lists) ≡ variableLimit) ⌝ }
+    requires { ⌜ Touching (now heads) (now room) rules (now sets) × (length (now lists) ≡ variableLimit) ⌝ }
     requires { ⌜ Due (now heads) (now room) rules (now lists) due ⌝ }
     ensures { λ r. ⌜ Spread (rulesAt (now (heads .entry)) (now (room .entry)) rules) (now (lists .entry)) (now (lists .exit)) r ⌝ }
 {
@@ -80,7 +80,7 @@ pub(crate) fn spread<'a>(
     while rest != 0 {
         let k = values::lowest(rest);
         let changed = filter_rule(heads, room, rules, k, lists);
-        let after = affected_by(touching, lists, changed);
+        let after = affected_by(sets, lists, changed);
         if after.empty {
             return false;
         }

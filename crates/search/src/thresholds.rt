@@ -14,11 +14,11 @@ pub(crate) struct Verdict {
 }
 
 // Drops the values with which a threshold cannot be reached, until a threshold is out of reach.
-pub(crate) fn raise(objective: &[u8], count: usize, floors: &[u8], lists: &mut [u64]) -> Verdict
-    requires { ⌜ Aims (now objective) count (now lists) × Open (now objective) count (now lists) × (length (now floors) ≡ objectiveLimit) ⌝ }
-    ensures { λ r. ⌜ Raised (take count (now (objective .entry))) (take count (now (floors .entry))) (now (lists .entry)) (r .alive) (r .changed) (now (lists .exit)) ⌝ }
+pub(crate) fn raise(goals: &[u8], count: usize, floors: &[u8], lists: &mut [u64]) -> Verdict
+    requires { ⌜ Aims (now goals) count (now lists) × Open (now goals) count (now lists) × (length (now floors) ≡ objectiveLimit) ⌝ }
+    ensures { λ r. ⌜ Raised (take count (now (goals .entry))) (take count (now (floors .entry))) (now (lists .entry)) (r .alive) (r .changed) (now (lists .exit)) ⌝ }
 {
-    let tops = tops_of(objective, count, lists);
+    let tops = tops_of(goals, count, lists);
     let mut changed: u64 = 0;
     let mut i = 0;
     while i < count {
@@ -33,7 +33,7 @@ pub(crate) fn raise(objective: &[u8], count: usize, floors: &[u8], lists: &mut [
                 };
             }
             if enough == needed {
-                changed |= lift(objective, count, &tops, floor, lists);
+                changed |= lift(goals, count, &tops, floor, lists);
             }
         }
         i += 1;
@@ -53,14 +53,14 @@ fn asked(count: usize, i: usize) -> usize
 }
 
 // The greatest value left to each objective.
-fn tops_of(objective: &[u8], count: usize, lists: &[u64]) -> [u8; 16]
-    requires { ⌜ Aims (now objective) count (now lists) × Open (now objective) count (now lists) ⌝ }
-    ensures { λ r. ⌜ Tops (now (objective .entry)) count (now (lists .entry)) r ⌝ }
+fn tops_of(goals: &[u8], count: usize, lists: &[u64]) -> [u8; 16]
+    requires { ⌜ Aims (now goals) count (now lists) × Open (now goals) count (now lists) ⌝ }
+    ensures { λ r. ⌜ Tops (now (goals .entry)) count (now (lists .entry)) r ⌝ }
 {
     let mut tops = [0u8; 16];
     let mut j = 0;
     while j < count {
-        let x = objective[j] as usize;
+        let x = goals[j] as usize;
         tops[j] = values::highest(lists[x]) as u8;
         j += 1;
     }
@@ -84,16 +84,16 @@ fn reaching(tops: &[u8], count: usize, floor: u8) -> usize
 }
 
 // Drops what lies below the floor from the list of each objective whose top reaches it. The answer is the set of the variables whose lists change.
-fn lift(objective: &[u8], count: usize, tops: &[u8], floor: u8, lists: &mut [u64]) -> u64
-    requires { ⌜ Aims (now objective) count (now lists) × (length (now tops) ≡ objectiveLimit) ⌝ }
-    ensures { λ r. ⌜ Lifted (now (objective .entry)) count (now (tops .entry)) floor (now (lists .entry)) (now (lists .exit)) r ⌝ }
+fn lift(goals: &[u8], count: usize, tops: &[u8], floor: u8, lists: &mut [u64]) -> u64
+    requires { ⌜ Aims (now goals) count (now lists) × (length (now tops) ≡ objectiveLimit) ⌝ }
+    ensures { λ r. ⌜ Lifted (now (goals .entry)) count (now (tops .entry)) floor (now (lists .entry)) (now (lists .exit)) r ⌝ }
 {
     let least = floor as usize;
     let mut changed: u64 = 0;
     let mut j = 0;
     while j < count {
         if floor <= tops[j] {
-            let x = objective[j] as usize;
+            let x = goals[j] as usize;
             let high = values::at_or_above(lists[x], least);
             changed |= keep(lists, x, high);
         }

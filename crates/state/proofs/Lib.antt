@@ -6,6 +6,7 @@ pub mod Holding
 pub mod Depths
 pub mod Reading
 pub mod Testing
+pub mod Following
 pub mod Extending
 pub mod NewLinear
 pub mod Runs

@@ -20,7 +20,8 @@ use Rattle.wcsp.specs.declared.Step.{Step}
 use Rattle.wcsp.specs.declared.Step.the-variants.{Fault, Read}
 use Rattle.wcsp.specs.declared.tables.Table as Code
 use Rattle.wcsp.specs.Reading.{Reading, got, next, anyNumber, range, judged, number, several, times}
-use Rattle.wcsp.specs.Files.{Table, sortBy, taken, variableTests, countTests, tupleTests, tuple, table}
+use Rattle.costs.specs.Costs.{sortBy}
+use Rattle.wcsp.specs.Files.{Table, taken, variableTests, countTests, tupleTests, tuple, table}
 use Rattle.wcsp.specs.Steps.{Comes, ComesTo, Filled, Whole, TableKept, NextTable}
 use Rattle.wcsp.proofs.Coming.{comes-by, stops, goes-on, number-is, number-on, last-one}
 use Rattle.wcsp.proofs.Judging.{in-range, tests-passed}

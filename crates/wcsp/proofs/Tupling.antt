@@ -16,7 +16,8 @@ use Rattle.state.specs.declared.Refusal.the-variants as Wrong
 use Rattle.wcsp.specs.declared.Step.{Step}
 use Rattle.wcsp.specs.declared.Step.the-variants.{Fault, Read}
 use Rattle.wcsp.specs.Reading.{fault, got, anyNumber, judged, number, several}
-use Rattle.wcsp.specs.Files.{valueTests, sameSaid, tupleTests, tuple}
+use Rattle.costs.specs.Costs.{sameSaid}
+use Rattle.wcsp.specs.Files.{valueTests, tupleTests, tuple}
 use Rattle.wcsp.specs.Steps.{Comes, ComesTo, Behind, Filled, NextTuple}
 use Rattle.wcsp.proofs.Coming.{comes-by, stops, goes-on, number-on}
 use Rattle.wcsp.proofs.Judging.{judged-refused, judged-passed}

@@ -9,6 +9,7 @@ use Rattle.meaning.specs.Refusals.{Refusal, noSuchVariable, variableTwice, wron
 use Rattle.meaning.specs.Calls.{Call, Sort, allow, forbid, addVariable, addTable, some, same}
 use Rattle.filters.specs.Layout.{joined}
 use Rattle.text.specs.Words.{tokenStart}
+use Rattle.costs.specs.Costs.{sameSaid, sortBy}
 use Rattle.wcsp.specs.Reading.{Reading, fault, got, next, Tests, anyNumber, range, judged, number, name, several, ended, times}
 
 pub record Header : Type 0 where
@@ -29,17 +30,6 @@ pub record File : Type 0 where
 unfoldable pub taken : List Table → ℕ
 taken [] = 0
 taken (t ∷ ts) = length (t .scope) + length (t .scope) * length (t .tuples) + taken ts
-
--- cost 0 allows and any other forbids
-abbrev pub allows : ℕ → Bool
-allows cost = eqb cost 0
-
-abbrev pub sameSaid : ℕ → ℕ → Bool
-sameSaid default cost = cond (allows default) (allows cost) (not (allows cost))
-
--- default 0 means that the listed tuples are forbidden; another default means that they are allowed
-abbrev pub sortBy : ℕ → Sort
-sortBy default = cond (allows default) forbid allow
 
 -- ---- what each number is tested for; `before` are those of the same list that stand before it
 

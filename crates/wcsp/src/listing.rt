@@ -6,11 +6,12 @@ ghost use lib.ListN.{length, take, drop};
 ghost use Rattle.meaning.specs.Limits.{variableLimit, roomLimit, arityLimit};
 ghost use Rattle.meaning.specs.Calls.{some, same, rows};
 ghost use Rattle.wcsp.specs.Reading.{several, times};
-ghost use Rattle.wcsp.specs.Files.{valueTests, sameSaid, tuple};
+ghost use Rattle.wcsp.specs.Files.{valueTests, tuple};
 ghost use Rattle.wcsp.specs.Steps.{Comes, Under, Behind, Filled, Keyed, KeyedOn, NextTuple};
 use crate::Step;
 use crate::numbers::any_number;
 use crate::numbers::number_below;
+use costs::says_same;
 use meaning::ROOM;
 use meaning::VARIABLES;
 use state::Refusal;
@@ -79,13 +80,6 @@ fn listed_by_key(cells: &[u8], count: usize, arity: usize, marked: &mut [bool; K
     }
     marked[key] = true;
     false
-}
-
-// Whether two costs both allow, or both forbid.
-fn says_same(default: usize, cost: usize) -> bool
-    ensures { λ r. ⌜ r ≡ sameSaid default cost ⌝ }
-{
-    if default == 0 { cost == 0 } else { cost != 0 }
 }
 
 // A tuple with its cost, behind the first `count` in the cells.

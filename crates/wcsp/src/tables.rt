@@ -4,10 +4,9 @@ ghost use mathlib.Core.List.{[]};
 ghost use Prim.Native.Nat.{_≤_};
 ghost use lib.ListN.{length, take};
 ghost use Rattle.meaning.specs.Limits.{variableLimit, roomLimit};
-ghost use Rattle.state.specs.Promises.{sortSaid};
 ghost use Rattle.state.specs.Runs.{Run};
 ghost use Rattle.wcsp.specs.Reading.{times};
-ghost use Rattle.wcsp.specs.Files.{sortBy, table, tableCalls, variableCalls};
+ghost use Rattle.wcsp.specs.Files.{table, tableCalls, variableCalls};
 ghost use Rattle.wcsp.specs.Steps.{Comes, Under, Whole, NextTable};
 use crate::Step;
 use crate::listing::read_tuples;
@@ -15,6 +14,7 @@ use crate::numbers::any_number;
 use crate::numbers::number_within;
 use crate::numbers::tuple_count;
 use crate::scopes::read_scope;
+use costs::sort_by;
 use meaning::ROOM;
 use meaning::VARIABLES;
 use state::Refusal;
@@ -45,17 +45,6 @@ fn no_table(step: Step) -> Table
         scope: [0; 8],
         arity: 0,
         filled: 0,
-    }
-}
-
-// Default 0 means that the listed tuples are forbidden.
-fn sort_by(default: usize) -> Sort
-    ensures { λ r. ⌜ sortSaid r ≡ sortBy default ⌝ }
-{
-    if default == 0 {
-        Sort::Forbid
-    } else {
-        Sort::Allow
     }
 }
 

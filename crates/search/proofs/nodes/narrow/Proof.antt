@@ -9,11 +9,11 @@ use Rattle.search.proofs.nodes.narrow.Statement.{statement}
 use Rattle.search.proofs.nodes.narrow.Tie as tie
 
 abbrev Inv-loop : tie.InvT-loop
-Inv-loop heads room rules touching objective count floors n due lists₀ rest₀ lists rest =
-    Sieving heads room rules (take count objective) (take count floors) n lists₀ lists rest
+Inv-loop heads room rules sets goals count floors n due lists₀ rest₀ lists rest =
+    Sieving heads room rules (take count goals) (take count floors) n lists₀ lists rest
 
 abbrev μ-loop : tie.MeasureT-loop
-μ-loop heads room rules touching objective count floors n due lists₀ rest₀ lists rest = weight lists
+μ-loop heads room rules sets goals count floors n due lists₀ rest₀ lists rest = weight lists
 
 loop-holds : tie.Need-loop-holds Inv-loop μ-loop
 loop-holds c =

@@ -8,15 +8,15 @@ use Rattle.search.proofs.spreading.affected_by.Statement.{statement}
 use Rattle.search.proofs.spreading.affected_by.Tie as tie
 
 abbrev Inv-loop : tie.InvT-loop
-Inv-loop touching lists changed rules₀ empty₀ rest₀ rules empty rest = Walked touching lists changed rules empty rest
+Inv-loop sets lists changed rules₀ empty₀ rest₀ rules empty rest = Walked sets lists changed rules empty rest
 
 abbrev μ-loop : tie.MeasureT-loop
-μ-loop touching lists changed rules₀ empty₀ rest₀ rules empty rest = size rest
+μ-loop sets lists changed rules₀ empty₀ rest₀ rules empty rest = size rest
 
 loop-holds : tie.Need-loop-holds Inv-loop μ-loop
 loop-holds c =
     let a = c .before .before .args in
-    walked-start (a .touching .now) (a .lists .now) (a .changed)
+    walked-start (a .sets .now) (a .lists .now) (a .changed)
 
 lowest-requires : tie.Need-lowest-requires Inv-loop μ-loop
 lowest-requires c κs = search needs

@@ -10,10 +10,10 @@ use Rattle.search.proofs.spreading.spread.Statement.{statement}
 use Rattle.search.proofs.spreading.spread.Tie as tie
 
 abbrev Inv-loop : tie.InvT-loop
-Inv-loop heads room rules touching due lists₀ rest₀ lists rest = Wave heads room rules lists₀ lists rest
+Inv-loop heads room rules sets due lists₀ rest₀ lists rest = Wave heads room rules lists₀ lists rest
 
 abbrev μ-loop : tie.MeasureT-loop
-μ-loop heads room rules touching due lists₀ rest₀ lists rest = 64 * weight lists + size rest
+μ-loop heads room rules sets due lists₀ rest₀ lists rest = 64 * weight lists + size rest
 
 loop-holds : tie.Need-loop-holds Inv-loop μ-loop
 loop-holds c = let start = c .before .before .before .before in wave-start (start .pre .1 .0 .1) (start .pre .1 .1)

@@ -10,10 +10,10 @@ use Rattle.search.proofs.thresholds.lift.Statement.{statement}
 use Rattle.search.proofs.thresholds.lift.Tie as tie
 
 abbrev Inv-loop : tie.InvT-loop
-Inv-loop objective count tops floor lists₀ least changed₀ j₀ lists changed j = (j ≤ count) × Lifted objective j tops floor lists₀ lists changed
+Inv-loop goals count tops floor lists₀ least changed₀ j₀ lists changed j = (j ≤ count) × Lifted goals j tops floor lists₀ lists changed
 
 abbrev μ-loop : tie.MeasureT-loop
-μ-loop objective count tops floor lists₀ least changed₀ j₀ lists changed j = count - j
+μ-loop goals count tops floor lists₀ least changed₀ j₀ lists changed j = count - j
 
 loop-holds : tie.Need-loop-holds Inv-loop μ-loop
 loop-holds c = (search needs, lifted-none (c .before .before .before .args .lists .now))

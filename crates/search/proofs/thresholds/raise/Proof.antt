@@ -8,10 +8,10 @@ use Rattle.search.proofs.thresholds.raise.Statement.{statement}
 use Rattle.search.proofs.thresholds.raise.Tie as tie
 
 abbrev Inv-loop : tie.InvT-loop
-Inv-loop objective count floors lists₀ tops changed₀ i₀ lists changed i = (i ≤ count) × Raising objective floors tops count lists₀ lists changed i
+Inv-loop goals count floors lists₀ tops changed₀ i₀ lists changed i = (i ≤ count) × Raising goals floors tops count lists₀ lists changed i
 
 abbrev μ-loop : tie.MeasureT-loop
-μ-loop objective count floors lists₀ tops changed₀ i₀ lists changed i = count - i
+μ-loop goals count floors lists₀ tops changed₀ i₀ lists changed i = count - i
 
 tops-of-requires : tie.Need-tops-of-requires Inv-loop μ-loop
 tops-of-requires c κs = let start = c .before .before .before .before in (start .pre .0, start .pre .1)
@@ -19,7 +19,7 @@ tops-of-requires c κs = let start = c .before .before .before .before in (start
 loop-holds : tie.Need-loop-holds Inv-loop μ-loop
 loop-holds c =
     let a = c .before .before .before .before .before .args in
-    (search needs, raising-start (a .objective .now) (a .floors .now) (c .tops-of .result) (a .count) (a .lists .now) (c .tops-of .ensures))
+    (search needs, raising-start (a .goals .now) (a .floors .now) (c .tops-of .result) (a .count) (a .lists .now) (c .tops-of .ensures))
 
 shared-slice-read-floor : tie.Need-shared-slice-read-floor Inv-loop μ-loop
 shared-slice-read-floor c = search needs

@@ -9,15 +9,15 @@ use Rattle.search.proofs.thresholds.tops_of.Statement.{statement}
 use Rattle.search.proofs.thresholds.tops_of.Tie as tie
 
 abbrev Inv-loop : tie.InvT-loop
-Inv-loop objective count lists tops₀ j₀ tops j = (j ≤ count) × Tops objective j lists tops
+Inv-loop goals count lists tops₀ j₀ tops j = (j ≤ count) × Tops goals j lists tops
 
 abbrev μ-loop : tie.MeasureT-loop
-μ-loop objective count lists tops₀ j₀ tops j = count - j
+μ-loop goals count lists tops₀ j₀ tops j = count - j
 
 loop-holds : tie.Need-loop-holds Inv-loop μ-loop
 loop-holds c =
     let a = c .before .before .args in
-    (search needs, tops-none (a .objective .now) (a .lists .now))
+    (search needs, tops-none (a .goals .now) (a .lists .now))
 
 shared-slice-read-x : tie.Need-shared-slice-read-x Inv-loop μ-loop
 shared-slice-read-x c = search needs

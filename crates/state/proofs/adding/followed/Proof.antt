@@ -4,7 +4,7 @@ use mathlib.Core.Logic.{⊎-elim}
 use native.Mathlib.Omega.{arith}
 use Rattle.blocks.proofs.Reading.{copied-is}
 use Rattle.blocks.proofs.Writing.{with-block}
-use Rattle.state.proofs.Extending.{followed-none, followed-some}
+use Rattle.state.proofs.Following.{followed-none, followed-some}
 use borrow.Author.Needs.{needs}
 use Rattle.state.proofs.adding.followed.Statement.{statement}
 use Rattle.state.proofs.adding.followed.Tie as tie

@@ -1,10 +1,10 @@
--- `wcsp::tuples::says_same` meets its contract. Assumes nothing.
+-- `costs::says_same` meets its contract. Assumes nothing.
 use mathlib.Core.Path.{sym, ap}
 use mathlib.Core.Bool.{Bool, not, cond}
 use lib.Dec.{eqb}
 use borrow.Author.Tests.{eq-eqb, ne-eqb}
-use Rattle.wcsp.proofs.listing.says_same.Statement.{statement}
-use Rattle.wcsp.proofs.listing.says_same.Tie as tie
+use Rattle.costs.proofs.says_same.Statement.{statement}
+use Rattle.costs.proofs.says_same.Tie as tie
 
 returns : tie.Need-returns
 returns c =

@@ -1,0 +1,2 @@
+-- That the contracts of `costs` allow one result each.
+pub mod Unique

@@ -1,0 +1,17 @@
+-- What the costs in a file say (document 01, "Reading wcsp").
+use mathlib.Core.Bool.{Bool, not, cond}
+use Prim.Native.Nat.{ℕ}
+use lib.Dec.{eqb}
+use Rattle.meaning.specs.Calls.{Sort, allow, forbid}
+
+-- cost 0 allows and any other forbids
+abbrev pub allows : ℕ → Bool
+allows cost = eqb cost 0
+
+-- the cost says of a tuple what the default says already
+abbrev pub sameSaid : ℕ → ℕ → Bool
+sameSaid default cost = cond (allows default) (allows cost) (not (allows cost))
+
+-- default 0 means that the listed tuples are forbidden; another default means that they are allowed
+abbrev pub sortBy : ℕ → Sort
+sortBy default = cond (allows default) forbid allow

@@ -1,0 +1,2 @@
+-- The definitions that the contracts of `costs` cite.
+pub mod Costs
