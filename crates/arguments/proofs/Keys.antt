@@ -1,20 +1,29 @@
 -- A search for a tuple that stands twice, from the last tuple to the first with a mark at each key passed. Assumes nothing.
-use mathlib.Core.Path.{_≡_, sym, ap, _∙_, subst}
+use mathlib.Core.Path.{_≡_, sym, ap, ap₂, _∙_, subst}
 use mathlib.Core.Logic.{by-cases}
 use mathlib.Core.Bool.{Bool, true, false, _||_}
 use mathlib.Core.List.{List, [], _∷_, List·Memᴰ·not-nil}
 use Prim.Native.Nat.{ℕ, _+_, _-_, _*_, _/_, _%_, _≤_, _<_}
-use native.Mathlib.Nat.{mod-lt, mod-le, mod-eq-of-lt, mod-eq-sub-mod, div-add-mod', mul-mod-left, div-zero}
+use native.Mathlib.Nat.{mod-lt, mod-le, mod-eq-of-lt, mod-eq-sub-mod, div-add-mod', mul-mod-left}
 use native.Mathlib.Decide.{decLe}
 use native.Mathlib.Omega.{arith}
-use lib.ListN.{length, getD, set, drop, length-set, length-drop}
+use lib.ListN.{length, getD, set, take, drop, length-set, length-drop}
 use lib.Seq.{drop-drop}
 use Rattle.meaning.specs.Calls.{some, same, repeats, rows}
 use Rattle.tuples.specs.Keys.{keyLimit, keyFrom, Marked}
 use Rattle.tuples.proofs.Marks.{unmarked, marked-too}
-use Rattle.arguments.specs.Checks.{tupleAt, tuplesIn, listedAgain}
-use Rattle.arguments.proofs.Searching.{earlier}
-use Rattle.arguments.proofs.Tuples.{tuples-none, tuples-more, twice-search}
+use Rattle.tuples.specs.Rows.{tupleAt, tuplesIn}
+use Rattle.tuples.proofs.Rows.{part-is, rest-is, tuple-long, tuples-none, tuples-more, tuples-of-none, twice-search}
+use Rattle.meaning.proofs.Searching.{earlier}
+use Rattle.arguments.specs.Checks.{listedAgain}
+
+-- the tuple at a place, looked for among those that the rest makes
+pub again-is-listed : (a : ℕ) (cells : List ℕ) (place : ℕ) → place + a ≤ length cells
+    → some (same (take (place + a - place) (drop place cells))) (tuplesIn (length (take (place + a - place) (drop place cells))) (take (length cells - (place + a)) (drop (place + a) cells)))
+    ≡ listedAgain a cells place
+again-is-listed a cells place h =
+    ap₂ (λ (t r : List ℕ). some (same t) (tuplesIn (length t) r)) (part-is a cells place) (rest-is cells (place + a))
+    ∙ ap (λ (n : ℕ). some (same (tupleAt a cells place)) (tuplesIn n (drop (place + a) cells))) (tuple-long a cells place h)
 
 -- what holds once the tuples from a place on are passed: none of them stands twice, and their keys are marked
 pub record Passed (a : ℕ) (cells : List ℕ) (place : ℕ) (marked : List Bool) : Type 0 where
@@ -101,5 +110,5 @@ module _ (a : ℕ) (some-cells : 0 < a) (cells : List ℕ) where
         (ap (λ (k : ℕ). repeats same (tuplesIn a (drop k cells))) steps ∙ here))
 
 pub no-tuples : (cells : List ℕ) {a : ℕ} → a ≡ 0 → false ≡ repeats same (tuplesIn a cells)
-unfolding repeats rows
-no-tuples cells e = sym (ap (λ (a : ℕ). repeats same (tuplesIn a cells)) e ∙ ap (λ (n : ℕ). repeats same (rows n 0 cells)) (div-zero (length cells)))
+unfolding repeats
+no-tuples cells e = sym (ap (repeats same) (tuples-of-none cells e))

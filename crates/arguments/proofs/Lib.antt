@@ -1,6 +1,4 @@
 -- The laws of the tests, for the proofs of this crate and of the crates that use it.
-pub mod Searching
 pub mod Limits
-pub mod Tuples
 pub mod Keys
 pub mod Unique

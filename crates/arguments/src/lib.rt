@@ -1,13 +1,14 @@
 // What the calls of document 01 test their arguments for.
-ghost use Prim.Native.Nat.{_+_, _≤_, _<_};
+ghost use Prim.Native.Nat.{_+_, _≤_};
 ghost use mathlib.Core.Path.{_≡_};
 ghost use lib.Dec.{leb, eqb};
-ghost use lib.ListN.{length, getD, drop};
+ghost use lib.ListN.{length};
 ghost use Rattle.meaning.specs.Limits.{valueLimit, coefficientLimit, boundLimit};
 ghost use Rattle.meaning.specs.Calls.{some, same, repeats, beyond};
-ghost use Rattle.arguments.specs.Checks.{tuplesIn, listedAgain};
+ghost use Rattle.tuples.specs.Rows.{tuplesIn};
+ghost use Rattle.arguments.specs.Checks.{listedAgain};
 use tuples::KEYS;
-use tuples::are_same;
+use tuples::is_listed;
 use tuples::key_of;
 
 // A value is below it.
@@ -46,14 +47,13 @@ pub fn any_large(values: &[u8]) -> bool
     any_from(values, VALUES)
 }
 
-// Whether the variable at a place stands again after it.
-fn named_again(variables: &[u8], place: usize) -> bool
-    requires { ⌜ place < length (now variables) ⌝ }
-    ensures { λ r. ⌜ r ≡ some (eqb (getD (now (variables .entry)) place 0)) (drop (place + 1) (now (variables .entry))) ⌝ }
+// Whether x is one of the variables.
+pub fn is_named(variables: &[u8], x: usize) -> bool
+    ensures { λ r. ⌜ r ≡ some (eqb x) (now (variables .entry)) ⌝ }
 {
-    let mut i = place + 1;
+    let mut i = 0;
     while i < variables.len() {
-        if variables[place] == variables[i] {
+        if x == variables[i] as usize {
             return true;
         }
         i += 1;
@@ -67,7 +67,7 @@ pub fn any_twice(variables: &[u8]) -> bool
 {
     let mut i = 0;
     while i < variables.len() {
-        if named_again(variables, i) {
+        if is_named(&variables[i + 1..], variables[i] as usize) {
             return true;
         }
         i += 1;
@@ -77,17 +77,11 @@ pub fn any_twice(variables: &[u8]) -> bool
 
 // Whether the tuple at a place stands again after it.
 fn listed_again(cells: &[u8], place: usize, arity: usize) -> bool
-    requires { ⌜ (0 < arity) × (place + arity ≤ length (now cells)) ⌝ }
+    requires { ⌜ place + arity ≤ length (now cells) ⌝ }
     ensures { λ r. ⌜ r ≡ listedAgain arity (now (cells .entry)) place ⌝ }
 {
-    let mut other = place + arity;
-    while arity <= cells.len() - other {
-        if are_same(&cells[place..place + arity], &cells[other..other + arity]) {
-            return true;
-        }
-        other += arity;
-    }
-    false
+    let rest = place + arity;
+    is_listed(&cells[place..rest], &cells[rest..])
 }
 
 // Whether a tuple stands twice, where so many cells make one. It goes from the last tuple to the first, with a mark at the key of each that it passed:

@@ -1,8 +1,8 @@
 -- Any two results that a public contract of this crate allows are the same. Assumes nothing.
 use mathlib.Core.Path.{_≡_, sym, _∙_}
-use mathlib.Core.Logic.{inl, inr, ⊎-elim, by-cases}
+use mathlib.Core.Logic.{_⊎_, inl, inr, ⊎-elim, by-cases}
 use mathlib.Core.List.{List}
-use Prim.Native.Nat.{ℕ, _+_, _*_}
+use Prim.Native.Nat.{ℕ, _+_, _*_, _≤_, _<_}
 use native.Mathlib.Decide.{ℕ-discrete, decLt}
 use native.Mathlib.Omega.{arith}
 use lib.ListN.{length, getD}
@@ -10,9 +10,9 @@ use lib.Seq.{ext-getD}
 use Rattle.meaning.specs.Limits.{variableLimit}
 use Rattle.meaning.proofs.Digits.{bit-cases, bit-iff, ext-all}
 use Rattle.blocks.specs.Keeping.{Changed, Kept, KeptIn}
-use Rattle.blocks.specs.Blocks.{block, Copied, withBlock, zeroedFrom}
+use Rattle.blocks.specs.Blocks.{listAfter, Copied, withBlock, zeroedFrom}
 
-pub list-of-unique : (l : List ℕ) (k x : ℕ) (r s : ℕ) → r ≡ getD (block l k variableLimit) x 0 → s ≡ getD (block l k variableLimit) x 0 → r ≡ s
+pub list-of-unique : (l : List ℕ) (k x : ℕ) (r s : ℕ) → r ≡ listAfter l k x → s ≡ listAfter l k x → r ≡ s
 list-of-unique l k x r s h e = h ∙ sym e
 
 pub lists-after-unique : (l : List ℕ) (k : ℕ) (r s : List ℕ) → Copied l k r → Copied l k s → r ≡ s
@@ -38,9 +38,14 @@ kept-unique {L} {x} {m} {K} {M} {c} {d} a b =
     by-cases (ℕ-discrete y x) (λ q. rw q (ext-all (getD K x 0) (getD M x 0) (λ v. a .here v ∙ sym (b .here v)))) (λ n. a .there y n ∙ sym (b .there y n)) in
     (e, changed-unique L K c d (a .changed) (rw e (b .changed)))
 
+-- where something is done with the i-th of n and 32 lists, and nothing changes otherwise
+pub done-or-not : (L : List ℕ) (i n : ℕ) {K M : List ℕ} {c d : ℕ} → (i < n → length L ≡ variableLimit → (K ≡ M) × (c ≡ d))
+    → ((n ≤ i) ⊎ ¬ (length L ≡ variableLimit) → (K ≡ L) × (c ≡ 0)) → ((n ≤ i) ⊎ ¬ (length L ≡ variableLimit) → (M ≡ L) × (d ≡ 0)) → (K ≡ M) × (c ≡ d)
+done-or-not L i n {K} {M} {c} {d} done a b =
+    by-cases (ℕ-discrete (length L) variableLimit) (λ long. by-cases (decLt i n) (λ l. done l long) (λ past. not-done (inl (omega arith)))) (λ short. not-done (inr short))
+  where
+    not-done : (n ≤ i) ⊎ ¬ (length L ≡ variableLimit) → (K ≡ M) × (c ≡ d)
+    not-done h = let (e, f) = a h in let (g, k) = b h in (e ∙ sym g, f ∙ sym k)
+
 pub keep-unique : (L : List ℕ) (x m : ℕ) (K M : List ℕ) (c d : ℕ) → KeptIn L x m K c → KeptIn L x m M d → (K ≡ M) × (c ≡ d)
-keep-unique L x m K M c d a b =
-    by-cases (ℕ-discrete (length L) variableLimit)
-    (λ long. by-cases (decLt x variableLimit) (λ l. kept-unique (a .kept l long) (b .kept l long))
-    (λ past. let (e, f) = a .none (inl (omega arith)) in let (g, h) = b .none (inl (omega arith)) in (e ∙ sym g, f ∙ sym h)))
-    (λ short. let (e, f) = a .none (inr short) in let (g, h) = b .none (inr short) in (e ∙ sym g, f ∙ sym h))
+keep-unique L x m K M c d a b = done-or-not L x variableLimit (λ l long. kept-unique (a .kept l long) (b .kept l long)) (a .none) (b .none)

@@ -5,7 +5,7 @@ use mathlib.Core.List.{List}
 use Prim.Native.Nat.{ℕ, _+_, _-_, _*_}
 use lib.Dec.{leb}
 use lib.ListN.{length, getD, take, drop, replicate}
-use lib.Seq.{paste}
+use lib.Seq.{sets}
 use Rattle.meaning.specs.Limits.{variableLimit, decisionLimit}
 
 -- the lists of n variables after k decisions
@@ -15,15 +15,19 @@ block lists k n = take n (drop (variableLimit * k) lists)
 abbrev pub blockPlaces : ℕ
 blockPlaces = variableLimit * (decisionLimit + 1)
 
--- r has the lists after k decisions, and 0 where there is no such place
+-- the list of the variable x after k decisions, and 0 where there is no such place
+abbrev pub listAfter : List ℕ → ℕ → ℕ → ℕ
+listAfter lists k x = cond (leb k decisionLimit) (getD (block lists k variableLimit) x 0) 0
+
+-- r has the lists after k decisions
 pub record Copied (lists : List ℕ) (k : ℕ) (r : List ℕ) : Type 0 where
   pub long : length r ≡ variableLimit
-  pub each : (x : ℕ) → getD r x 0 ≡ getD (block lists k variableLimit) x 0
+  pub each : (x : ℕ) → getD r x 0 ≡ listAfter lists k x
 
 -- the lists with `left` after k decisions
 abbrev pub withBlock : List ℕ → ℕ → List ℕ → List ℕ
-withBlock lists k left = cond (leb k decisionLimit) (paste lists (variableLimit * k) left variableLimit) lists
+withBlock lists k left = cond (leb k decisionLimit) (sets lists (variableLimit * k) left) lists
 
 -- the lists with zeros from a place on
 abbrev pub zeroedFrom : List ℕ → ℕ → List ℕ
-zeroedFrom lists i = paste lists i (replicate (blockPlaces - i) 0) (blockPlaces - i)
+zeroedFrom lists i = sets lists i (replicate (blockPlaces - i) 0)

@@ -1,16 +1,13 @@
 // The 33 blocks of lists that a state keeps: block k holds the values left to each variable after k decisions.
-// All that is required is what the type says, that there are 1,056 places.
 ghost use mathlib.Core.Path.{_≡_};
 ghost use Prim.Native.Nat.{_+_, _*_};
-ghost use lib.ListN.{length, getD};
 ghost use Rattle.meaning.specs.Limits.{variableLimit};
 ghost use Rattle.blocks.specs.Keeping.{KeptIn};
-ghost use Rattle.blocks.specs.Blocks.{block, blockPlaces, Copied, withBlock, zeroedFrom};
+ghost use Rattle.blocks.specs.Blocks.{listAfter, Copied, withBlock, zeroedFrom};
 
 // The list of the variable x after k decisions; 0 where there is no such place.
 pub fn list_of(lists: &[u64; 1056], k: usize, x: usize) -> u64
-    requires { ⌜ length (now lists) ≡ blockPlaces ⌝ }
-    ensures { λ r. ⌜ r ≡ getD (block (now (lists .entry)) k variableLimit) x 0 ⌝ }
+    ensures { λ r. ⌜ r ≡ listAfter (now (lists .entry)) k x ⌝ }
 {
     if 32 < k || 32 <= x {
         return 0;
@@ -20,7 +17,6 @@ pub fn list_of(lists: &[u64; 1056], k: usize, x: usize) -> u64
 
 // The lists after k decisions.
 pub fn lists_after(lists: &[u64; 1056], k: usize) -> [u64; 32]
-    requires { ⌜ length (now lists) ≡ blockPlaces ⌝ }
     ensures { λ r. ⌜ Copied (now (lists .entry)) k r ⌝ }
 {
     let mut out = [0u64; 32];
@@ -34,7 +30,6 @@ pub fn lists_after(lists: &[u64; 1056], k: usize) -> [u64; 32]
 
 // Makes `left` the lists after k decisions, where there is such a block.
 pub fn put_lists(lists: &mut [u64; 1056], k: usize, left: [u64; 32])
-    requires { ⌜ length (now lists) ≡ blockPlaces ⌝ }
     ensures { λ r. ⌜ now (lists .exit) ≡ withBlock (now (lists .entry)) k left ⌝ }
 {
     if 32 < k {
@@ -50,7 +45,6 @@ pub fn put_lists(lists: &mut [u64; 1056], k: usize, left: [u64; 32])
 
 // Empties the lists of every depth above k.
 pub fn clear_after(lists: &mut [u64; 1056], k: usize)
-    requires { ⌜ length (now lists) ≡ blockPlaces ⌝ }
     ensures { λ r. ⌜ now (lists .exit) ≡ zeroedFrom (now (lists .entry)) (variableLimit * k + variableLimit) ⌝ }
 {
     if 32 < k {

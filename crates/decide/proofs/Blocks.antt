@@ -6,15 +6,16 @@ use Prim.Native.Nat.{ℕ, _+_, _-_, _*_, _≤_, _<_}
 use native.Mathlib.Decide.{ℕ-discrete, decLt}
 use native.Mathlib.Omega.{arith}
 use lib.ListN.{length, getD, take, replicate, length-append, length-replicate, List·getD-eq-default}
-use lib.Seq.{paste, length-paste, ext-getD, getD-take, take-all, take-take, take-append-le, length-take-le}
+use lib.Seq.{sets, length-sets, ext-getD, take-all, take-take, take-append-le, length-take-le}
 use Rattle.meaning.specs.Limits.{variableLimit, decisionLimit}
 use Rattle.meaning.specs.Standing.{Standing, Decision}
 use Rattle.meaning.specs.Lists.{Largest}
 use Rattle.meaning.specs.Calls.{withDecisions, decide}
 use Rattle.meaning.specs.Proper.{Proper}
 use Rattle.blocks.specs.Blocks.{block, blockPlaces, zeroedFrom}
-use Rattle.blocks.proofs.Copying.{zeros-at, paste-in, paste-before, paste-after}
+use Rattle.blocks.proofs.Copying.{zeros-at}
 use Rattle.blocks.proofs.Reading.{block-at, block-length}
+use Rattle.blocks.proofs.Writing.{written-in, written-out, block-written, block-stays}
 use Rattle.state.specs.Holds.{HoldsLists, upTo}
 
 -- lists with the same numbers there have the same block
@@ -34,21 +35,15 @@ module _ (w : Standing) (p : Proper w) (l : List ℕ) (h : HoldsLists l w) where
     next = variableLimit * (length (w .decisions) + 1)
 
     more : List ℕ
-    more = paste l next M variableLimit
+    more = sets l next M
 
     more-length : length more ≡ blockPlaces
     unfolding more next
-    more-length = length-paste l next M variableLimit (omega (arith, h .long)) (omega arith) ∙ h .long
-
-    more-in : (x : ℕ) → x < variableLimit → getD more (variableLimit * (length (w .decisions) + 1) + x) 0 ≡ getD M x 0
-    unfolding more next
-    more-in x i = paste-in l next M variableLimit (omega (arith, h .long)) (omega arith) x i
+    more-length = length-sets l next M ∙ h .long
 
     more-out : (k x : ℕ) → x < variableLimit → ¬ (k ≡ length (w .decisions) + 1) → getD more (variableLimit * k + x) 0 ≡ getD l (variableLimit * k + x) 0
     unfolding more next
-    more-out k x i other =
-        by-cases (decLt k (length (w .decisions) + 1)) (λ j. paste-before l next M variableLimit (omega (arith, h .long)) (omega arith) (variableLimit * k + x) (omega arith))
-        (λ j. paste-after l next M variableLimit (omega (arith, h .long)) (omega arith) (variableLimit * k + x) (omega arith))
+    more-out = block-stays l (length (w .decisions) + 1) M long
 
     left : (k : ℕ) → k ≤ length (w .decisions ++ (d ∷ [])) → Largest (upTo (decide w d) k) (block more k (length (w .declared)))
     left k j = by-cases (decLt (length (w .decisions)) k) (λ new. last k (omega (arith, length-append (w .decisions) (d ∷ [])))) (λ old. earlier k (omega arith))
@@ -61,16 +56,10 @@ module _ (w : Standing) (p : Proper w) (l : List ℕ) (h : HoldsLists l w) where
         last : (k : ℕ) → k ≡ length (w .decisions) + 1 → Largest (upTo (decide w d) k) (block more k (length (w .declared)))
         last k e =
             let all = take-all k (w .decisions ++ (d ∷ [])) (omega (arith, length-append (w .decisions) (d ∷ []))) in
-            let b : block more k (length (w .declared)) ≡ take (length (w .declared)) M =
-            ext-getD 0 (block more k (length (w .declared))) (take (length (w .declared)) M)
-            (block-length more k (length (w .declared)) more-length (omega arith) (p .variables) ∙ sym (length-take-le (length (w .declared)) M (omega (arith, p .variables))))
-            (λ x i.
-            let small : x < length (w .declared) = omega (arith, block-length more k (length (w .declared)) more-length (omega arith) (p .variables)) in
-            block-at more k (length (w .declared)) x small ∙ ap (λ (j : ℕ). getD more (variableLimit * j + x) 0) e
-            ∙ more-in x (omega (arith, p .variables)) ∙ sym (getD-take (length (w .declared)) M x 0 small)) in
-            rw (b, all) largest
+            let b = block-written l (length (w .decisions) + 1) M long (length (w .declared)) (h .long) (omega arith) (p .variables) in
+            rw (e, b, ← e, all) largest
 
-    pub lists-decided : HoldsLists (paste l (variableLimit * (length (w .decisions) + 1)) M variableLimit) (decide w d)
+    pub lists-decided : HoldsLists (sets l (variableLimit * (length (w .decisions) + 1)) M) (decide w d)
     unfolding more next
     lists-decided = record {
       long = more-length;
@@ -82,7 +71,7 @@ module _ (w : Standing) (p : Proper w) (l : List ℕ) (h : HoldsLists l w) where
             → getD more (variableLimit * k + x) 0 ≡ 0
         here k x small past e =
             let i : length (w .declared) ≤ x = ⊎-elim (λ i. i) (λ i. absurd (omega (arith, length-append (w .decisions) (d ∷ [])))) past in
-            ap (λ (j : ℕ). getD more (variableLimit * j + x) 0) e ∙ more-in x small ∙ none x i
+            ap (λ (j : ℕ). getD more (variableLimit * j + x) 0) e ∙ written-in l next M x (omega arith) (omega (arith, h .long)) ∙ none x i
 
         there : (k x : ℕ) → x < variableLimit → (length (w .declared) ≤ x) ⊎ (length (w .decisions ++ (d ∷ [])) < k) → ¬ (k ≡ length (w .decisions) + 1)
             → getD more (variableLimit * k + x) 0 ≡ 0
@@ -100,14 +89,11 @@ module _ (w : Standing) (p : Proper w) (l : List ℕ) (h : HoldsLists l w) where
 
     back-length : length back ≡ blockPlaces
     unfolding back from
-    back-length =
-        length-paste l from (replicate (blockPlaces - from) 0) (blockPlaces - from) (omega (arith, h .long, p .decisions)) (omega (arith, length-replicate {A = ℕ} (blockPlaces - from) 0))
-        ∙ h .long
+    back-length = length-sets l from (replicate (blockPlaces - from) 0) ∙ h .long
 
     back-before : (i : ℕ) → i < from → getD back i 0 ≡ getD l i 0
     unfolding back from
-    back-before i j =
-        paste-before l from (replicate (blockPlaces - from) 0) (blockPlaces - from) (omega (arith, h .long, p .decisions)) (omega (arith, length-replicate {A = ℕ} (blockPlaces - from) 0)) i j
+    back-before i j = written-out l from (replicate (blockPlaces - from) 0) i (inl j)
 
     back-zero : (i : ℕ) → from ≤ i → getD back i 0 ≡ 0
     unfolding back from
@@ -117,7 +103,7 @@ module _ (w : Standing) (p : Proper w) (l : List ℕ) (h : HoldsLists l w) where
         inside u =
             let e : from + (i - from) ≡ i = omega arith in
             ap (λ (m : ℕ). getD back m 0) (sym e)
-            ∙ paste-in l from (replicate (blockPlaces - from) 0) (blockPlaces - from) (omega (arith, h .long, p .decisions)) (omega (arith, length-replicate {A = ℕ} (blockPlaces - from) 0)) (i - from) (omega arith)
+            ∙ written-in l from (replicate (blockPlaces - from) 0) (i - from) (omega (arith, length-replicate {A = ℕ} (blockPlaces - from) 0)) (omega (arith, h .long))
             ∙ zeros-at (blockPlaces - from) (i - from)
 
     pub lists-back : HoldsLists (zeroedFrom l (variableLimit * k + variableLimit)) (withDecisions w (take k (w .decisions)))

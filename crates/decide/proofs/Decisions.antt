@@ -7,7 +7,7 @@ use native.Mathlib.Decide.{ℕ-discrete}
 use native.Mathlib.Omega.{arith}
 use borrow.Author.Tests.{le-leb, lt-leb, eq-eqb, ne-eqb}
 use lib.ListN.{length, getD, set, take, length-append, length-set, List·getD-eq-default}
-use lib.Seq.{paste, getD-set-same, getD-set-other, length-take-le}
+use lib.Seq.{sets, getD-set-same, getD-set-other, length-take-le}
 use Rattle.meaning.specs.Limits.{valueLimit, variableLimit, decisionLimit}
 use Rattle.meaning.specs.Refusals.{number, first, noSuchVariable, outOfRange, tooManyDecisions, notLeft}
 use Rattle.meaning.specs.Values.{bit, Has, Lacks}
@@ -122,7 +122,7 @@ set-same K L x m i j e y =
     (λ n. getD-set-other K x y m 0 n ∙ e y ∙ sym (getD-set-other L x y m 0 n))
 
 abbrev next : State → List ℕ → List ℕ
-next s M = paste (s .lists) (variableLimit * (s .depth + 1)) M variableLimit
+next s M = sets (s .lists) (variableLimit * (s .depth + 1)) M
 
 module _ (s : State) (x kept : ℕ) (M : List ℕ) (known : x < s .variables) (few : s .depth < decisionLimit)
     (largest : LargestIn (rulesAt (s .heads) (s .room) (s .rules)) (set (block (s .lists) (s .depth) variableLimit) x kept) M) where
@@ -188,7 +188,7 @@ module _ (s : State) (x kept : ℕ) (M : List ℕ) (known : x < s .variables) (f
 
 -- the same, as the code comes by it: from a copy of the block, and what is written back
 pub narrows-by : (s : State) (x kept : ℕ) (b M l : List ℕ) → x < s .variables → s .depth < decisionLimit → b ≡ block (s .lists) (s .depth) variableLimit
-    → LargestIn (rulesAt (s .heads) (s .room) (s .rules)) (set b x kept) M → l ≡ paste (s .lists) (variableLimit * (s .depth + 1)) M variableLimit
+    → LargestIn (rulesAt (s .heads) (s .room) (s .rules)) (set b x kept) M → l ≡ sets (s .lists) (variableLimit * (s .depth + 1)) M
     → Narrowed s x kept (withBlock s l)
 narrows-by s x kept b M l known few eb largest el =
     rw el (narrows s x kept M known few (rw eb at largest))

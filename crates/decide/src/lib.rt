@@ -1,10 +1,7 @@
 // Pins, bans, taking back, and the values left.
-ghost use mathlib.Core.Path.{_≡_};
 ghost use Prim.Native.Nat.{_<_, _≤_};
-ghost use lib.ListN.{length};
 ghost use Rattle.meaning.specs.Limits.{decisionLimit};
 ghost use Rattle.meaning.specs.Calls.{pin, ban, takeBack};
-ghost use Rattle.blocks.specs.Blocks.{blockPlaces};
 ghost use Rattle.state.specs.Holds.{Reached};
 ghost use Rattle.state.specs.Promises.{Answers, numberOf};
 ghost use Rattle.decide.specs.Decisions.{Tested, Narrowed, TellsLeft, decisionNumber};
@@ -74,7 +71,7 @@ pub fn ban(s: State, x: u8, v: u8) -> AfterDecision
 
 // The tests of a pin or a ban, in document 01's order.
 fn tested(variables: usize, depth: usize, lists: &[u64; 1056], x: usize, v: usize) -> DecisionAnswer
-    requires { ⌜ (length (now lists) ≡ blockPlaces) × (depth ≤ decisionLimit) × (variables ≤ 32) ⌝ }
+    requires { ⌜ (depth ≤ decisionLimit) × (variables ≤ 32) ⌝ }
     ensures { λ r. ⌜ Tested variables depth (now (lists .entry)) x v (decisionNumber r) ⌝ }
 {
     if variables <= x {

@@ -1,15 +1,10 @@
 -- Any two results that a public contract of this crate allows are the same. Assumes nothing.
 use mathlib.Core.Path.{_≡_, sym, _∙_}
-use mathlib.Core.Logic.{inl, inr, by-cases}
 use mathlib.Core.List.{List}
 use Prim.Native.Nat.{ℕ}
-use native.Mathlib.Decide.{ℕ-discrete, decLt}
-use native.Mathlib.Omega.{arith}
-use lib.ListN.{length}
-use Rattle.meaning.specs.Limits.{variableLimit}
 use Rattle.meaning.specs.Rules.{Rule}
 use Rattle.meaning.proofs.Largest.{same-lists}
-use Rattle.blocks.proofs.Unique.{changed-unique}
+use Rattle.blocks.proofs.Unique.{changed-unique, done-or-not}
 use Rattle.filters.specs.Filter.{Filtered, Filtering, FiltersBy, LargestIn}
 
 filtered-unique : {r : Rule} {L K M : List ℕ} → Filtered r L K → Filtered r L M → K ≡ M
@@ -24,11 +19,7 @@ filtering-unique {L} {K} {c} {d} a b =
 
 pub filter-rule-unique : (heads room : List ℕ) (rules k : ℕ) (L K M : List ℕ) (c d : ℕ) → FiltersBy heads room rules k L K c → FiltersBy heads room rules k L M d
     → (K ≡ M) × (c ≡ d)
-filter-rule-unique heads room rules k L K M c d a b =
-    by-cases (ℕ-discrete (length L) variableLimit)
-    (λ long. by-cases (decLt k rules) (λ l. filtering-unique (a .by l long) (b .by l long))
-    (λ past. let (e, f) = a .none (inl (omega arith)) in let (g, h) = b .none (inl (omega arith)) in (e ∙ sym g, f ∙ sym h)))
-    (λ short. let (e, f) = a .none (inr short) in let (g, h) = b .none (inr short) in (e ∙ sym g, f ∙ sym h))
+filter-rule-unique heads room rules k L K M c d a b = done-or-not L k rules (λ l long. filtering-unique (a .by l long) (b .by l long)) (a .none) (b .none)
 
 pub settled-unique : (rules : List Rule) (lists r q : List ℕ) → LargestIn rules lists r → LargestIn rules lists q → r ≡ q
 settled-unique rules lists r q a b =

@@ -1,4 +1,5 @@
 pub mod Tests
+pub mod Searching
 pub mod Digits
 pub mod Sizes
 pub mod Sets

@@ -14,9 +14,9 @@ use Rattle.state.proofs.Runs.{run-reached}
 use Rattle.wcsp.specs.declared.Loaded.{Loaded}
 use Rattle.wcsp.specs.declared.Outcome.the-variants.{Accepted, Refused}
 use Rattle.wcsp.specs.Files.{file}
-use Rattle.wcsp.specs.Steps.{numberOf}
+use Rattle.reading.specs.Steps.{numberOf}
 use Rattle.wcsp.specs.Promises.{Reads, said}
-use Rattle.wcsp.proofs.Readings.{isFault}
+use Rattle.reading.proofs.Readings.{isFault}
 use Rattle.wcsp.proofs.Sized.{sizes-bounds}
 use Rattle.lines.specs.Lines.{refusedLine}
 use Rattle.lines.specs.Writing.{Written}

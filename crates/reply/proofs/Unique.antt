@@ -8,7 +8,7 @@ use native.Mathlib.Omega.{arith}
 use lib.ListN.{length}
 use Rattle.meaning.specs.Standing.{Standing}
 use Rattle.meaning.specs.Solutions.{Answer, Inconsistent}
-use Rattle.wcsp.specs.Reading.{Reading, fault, got}
+use Rattle.reading.specs.Reading.{Reading, fault, got}
 use Rattle.wcsp.specs.Files.{File, file}
 use Rattle.lines.specs.Writing.{Written}
 use Rattle.lines.proofs.Unique.{written-unique}

@@ -11,7 +11,7 @@ use Rattle.meaning.specs.Calls.{Call, nameObjectives}
 use Rattle.meaning.specs.Histories.{Leaves}
 use Rattle.state.specs.declared.State.{State}
 use Rattle.state.specs.Runs.{Run}
-use Rattle.wcsp.specs.Reading.{fault, got}
+use Rattle.reading.specs.Reading.{fault, got}
 use Rattle.wcsp.specs.Files.{File, file, calls}
 use Rattle.lines.specs.Lines.{tooLongLine, inconsistentLine, refusedLine, foundLines}
 use Rattle.lines.specs.Writing.{Written}

@@ -5,8 +5,8 @@ use mathlib.Core.List.{List, [], _∷_, _++_}
 use Prim.Native.Nat.{ℕ, zero, suc, _+_, _-_, _*_, _≤_, _<_}
 use native.Mathlib.Decide.{ℕ-discrete}
 use native.Mathlib.Omega.{arith}
-use lib.ListN.{length, getD, take, drop, length-append, length-take, List·getD-eq-default}
-use lib.Seq.{paste, length-paste, length-take-le, take-at, take-length, take-append-le, take-take}
+use lib.ListN.{length, getD, take, length-append, List·getD-eq-default}
+use lib.Seq.{sets, length-sets, length-take-le, take-at, take-length}
 use Rattle.meaning.specs.Limits.{variableLimit}
 use Rattle.meaning.specs.Rules.{Rule, room}
 use Rattle.meaning.specs.Standing.{Standing}
@@ -26,7 +26,7 @@ use Rattle.state.proofs.Holding.{current, none-of}
 use Rattle.blocks.proofs.Reading.{block-length}
 use Rattle.filters.proofs.Closing.{follows-none, follows-some, empty-within}
 use Rattle.state.proofs.Depths.{wide-block, settled, first-within, within-first, same-within}
-use Rattle.blocks.proofs.Copying.{paste-in, paste-after}
+use Rattle.blocks.proofs.Writing.{written-in, block-written, block-stays}
 use Rattle.filters.proofs.Laid.{first-rules}
 use Rattle.filters.proofs.Closing.{closed-kept, closed-by-each}
 
@@ -119,35 +119,28 @@ module _ (s t : State) (w : Standing) (r : Rule) (p : Proper w) (q : Proper (wit
         (first-within (length (w .declared)) M) (within-first (length (w .declared)) M past)
         (length-take-le (length (w .declared)) M (omega (arith, long, p .variables)))
 
-    lists : HoldsLists (paste (s .lists) 0 M variableLimit) (withRule w r)
+    lists : HoldsLists (sets (s .lists) 0 M) (withRule w r)
     lists = record {
-      long = length-paste (s .lists) 0 M variableLimit (omega (arith, hold .lists .long)) (omega (arith, long)) ∙ hold .lists .long;
+      long = length-sets (s .lists) 0 M ∙ hold .lists .long;
       left = at-depth;
       rest = λ k x small out. by-cases (ℕ-discrete k 0) (first k x small out) (later k x small);
     }
       where
-        fits : 0 + variableLimit ≤ length (s .lists)
-        fits = omega (arith, hold .lists .long)
-
-        at-depth : (k : ℕ) → k ≤ length (w .decisions) → Largest (upTo (withRule w r) k) (block (paste (s .lists) 0 M variableLimit) k (length (w .declared)))
+        at-depth : (k : ℕ) → k ≤ length (w .decisions) → Largest (upTo (withRule w r) k) (block (sets (s .lists) 0 M) k (length (w .declared)))
         at-depth zero i =
             let e = none-of (w .decisions) none in
-            let front : take (length (w .declared)) (paste (s .lists) 0 M variableLimit) ≡ take (length (w .declared)) M =
-            take-append-le (length (w .declared)) (take variableLimit M) (drop (0 + variableLimit) (s .lists)) (omega (arith, length-take variableLimit M, long, p .variables))
-            ∙ take-take (length (w .declared)) variableLimit M (p .variables) in
+            let front = block-written (s .lists) 0 M long (length (w .declared)) (hold .lists .long) (omega arith) (p .variables) in
             rw (front, ← e) left
         at-depth (suc k) i = absurd (omega (arith, none))
 
-        first : (k x : ℕ) → x < variableLimit → (length (w .declared) ≤ x) ⊎ (length (w .decisions) < k) → k ≡ 0 → getD (paste (s .lists) 0 M variableLimit) (variableLimit * k + x) 0 ≡ 0
+        first : (k x : ℕ) → x < variableLimit → (length (w .declared) ≤ x) ⊎ (length (w .decisions) < k) → k ≡ 0 → getD (sets (s .lists) 0 M) (variableLimit * k + x) 0 ≡ 0
         first k x small out e =
             let i : length (w .declared) ≤ x = ⊎-elim (λ i. i) (λ i. absurd (omega arith)) out in
             let at : variableLimit * k + x ≡ 0 + x = omega arith in
-            rw at (paste-in (s .lists) 0 M variableLimit fits (omega (arith, long)) x small ∙ past x i)
+            rw at (written-in (s .lists) 0 M x (omega (arith, long)) (omega (arith, hold .lists .long)) ∙ past x i)
 
-        later : (k x : ℕ) → x < variableLimit → ¬ (k ≡ 0) → getD (paste (s .lists) 0 M variableLimit) (variableLimit * k + x) 0 ≡ 0
-        later k x small d =
-            paste-after (s .lists) 0 M variableLimit fits (omega (arith, long)) (variableLimit * k + x) (omega arith)
-            ∙ hold .lists .rest k x small (inr (omega (arith, none)))
+        later : (k x : ℕ) → x < variableLimit → ¬ (k ≡ 0) → getD (sets (s .lists) 0 M) (variableLimit * k + x) 0 ≡ 0
+        later k x small d = block-stays (s .lists) 0 M long k x small d ∙ hold .lists .rest k x small (inr (omega (arith, none)))
 
     pub followed-held : Holds u (withRule w r)
     unfolding M
@@ -170,14 +163,14 @@ module _ (s : State) (k : ℕ) (ready : Followable s k) (b K l : List ℕ) (c : 
   closed-before : (j : ℕ) → j < s .rules → ¬ (j ≡ k) → ClosedBy (ruleAt (s .heads) (s .room) j) b
   closed-before j h d = rw eb (ready .others j h d)
 
-  pub followed-none : c ≡ 0 → l ≡ paste (s .lists) (variableLimit * 0) K variableLimit → Followed s (withLists s l)
+  pub followed-none : c ≡ 0 → l ≡ sets (s .lists) (variableLimit * 0) K → Followed s (withLists s l)
   followed-none z el = record {
     left = K;
     largest = rw eb at (follows-none (s .heads) (s .room) (s .rules) k (ready .known) closed-before f z);
     is = ap (withLists s) el;
   }
 
-  pub followed-some : (M : List ℕ) → LargestIn (rulesAt (s .heads) (s .room) (s .rules)) K M → l ≡ paste (s .lists) (variableLimit * 0) M variableLimit → Followed s (withLists s l)
+  pub followed-some : (M : List ℕ) → LargestIn (rulesAt (s .heads) (s .room) (s .rules)) K M → l ≡ sets (s .lists) (variableLimit * 0) M → Followed s (withLists s l)
   followed-some M m el = record {
     left = M;
     largest = rw eb at (follows-some (s .heads) (s .room) (s .rules) k (ready .known) closed-before f M m);

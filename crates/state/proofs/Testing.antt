@@ -20,7 +20,7 @@ use Rattle.meaning.specs.Calls as Calls
 use Rattle.meaning.specs.Calls.{addTable, addLinear, some, same, repeats, beyond, tuplesOf, ruleOf, unknown, overfull, tests}
 use Rattle.meaning.proofs.Proper.{number-above, rows-count, some-no, beyond-no}
 use Rattle.meaning.proofs.Tests.{or-no}
-use Rattle.arguments.specs.Checks.{tuplesIn}
+use Rattle.tuples.specs.Rows.{tuplesIn}
 use Rattle.state.specs.Additions.{Counted, TableTested, LinearTested}
 use Rattle.state.proofs.Answering.{Finds, finds}
 

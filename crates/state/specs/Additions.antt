@@ -4,7 +4,7 @@ use mathlib.Core.List.{List}
 use Prim.Native.Nat.{ℕ, _+_, _*_, _%_, _≤_, _<_}
 use lib.IntN.{ℤ}
 use lib.ListN.{length}
-use lib.Seq.{paste}
+use lib.Seq.{sets}
 use Rattle.meaning.specs.Limits.{variableLimit, ruleLimit, roomLimit, arityLimit, termLimit, boundLimit, objectiveLimit}
 use Rattle.meaning.specs.Rules.{Rule}
 use Rattle.meaning.specs.Standing.{Standing}
@@ -104,5 +104,5 @@ pub record Followed (s t : State) : Type 0 where
     objectives = s .objectives;
     objective = s .objective;
     depth = s .depth;
-    lists = paste (s .lists) 0 left variableLimit;
+    lists = sets (s .lists) 0 left;
   }

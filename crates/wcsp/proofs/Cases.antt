@@ -16,7 +16,7 @@ use Rattle.text.specs.Bytes.{sortOf, isBlank, isDigit, isVisible}
 use Rattle.text.specs.Words.{front, blanks, run, tokenStart, tokenAt}
 use Rattle.text.specs.Tokens.{every, valueFrom, valueOf, isNumber, isName, numberIn, nameIn, numberAt, nameAt}
 use Rattle.wcsp.specs.declared.Loaded.{Loaded}
-use Rattle.wcsp.specs.Reading.{Reading, fault, got, times, number, name, ended}
+use Rattle.reading.specs.Reading.{Reading, fault, got, times, number, name, ended}
 use Rattle.wcsp.specs.Files.{File, file, taken}
 use Rattle.wcsp.specs.Promises.{Reads, said}
 

@@ -3,17 +3,19 @@ use mathlib.Core.Path.{_≡_, refl, sym, ap, ap₂, _∙_, subst, subst⁻¹}
 use mathlib.Core.Logic.{⊎-elim}
 use mathlib.Core.Bool.{Bool, true, false}
 use mathlib.Core.List.{List, [], _∷_, _++_, List·Memᴰ, List·Memᴰ·head, List·Memᴰ·tail, List·Memᴰ·not-nil, List·Memᴰ·append-cases, List·Memᴰ·eq-of-singleton}
-use Prim.Native.Nat.{ℕ, zero, suc, _+_, _*_, _≤_, _<_}
-use native.Mathlib.Nat.{suc-mul}
+use Prim.Native.Nat.{ℕ, zero, suc, _+_, _-_, _*_, _/_, _≤_, _<_}
+use native.Mathlib.Nat.{suc-mul, mul-div-left}
 use native.Mathlib.Omega.{arith}
 use lib.ListN.{length, getD, set, take, drop, length-set, length-drop}
 use lib.Seq.{length-take-le, take-take, take-add, drop-at, drop-drop}
 use Rattle.meaning.specs.Calls.{some, same, rows}
 use Rattle.tuples.specs.Keys.{keyLimit, keyFrom}
+use Rattle.tuples.specs.Rows.{tuplesIn}
+use Rattle.tuples.proofs.Rows.{part-is, tuple-long}
 use Rattle.tuples.proofs.Marks.{unmarked, marked-too}
 use Rattle.state.specs.declared.Refusal.{Refusal}
-use Rattle.wcsp.specs.declared.Step.{Step}
-use Rattle.wcsp.specs.declared.Step.the-variants.{Fault, Read}
+use Rattle.reading.specs.declared.Step.{Step}
+use Rattle.reading.specs.declared.Step.the-variants.{Fault, Read}
 use Rattle.wcsp.specs.Steps.{Behind, Keyed, KeyedOn}
 
 -- rows lie in the cells before their end
@@ -28,6 +30,20 @@ rows-kept (suc n) a l m hl hm e =
     λ x h. ap (drop a) (take-add a (n * a) x) ∙ drop-at (take a x) (take (n * a) (drop a x)) a (length-take-le a x (omega (arith, k))) in
     let others = sym (rest l hl) ∙ ap (drop a) whole ∙ rest m hm in
     ap₂ _∷_ first (rows-kept n a (drop a l) (drop a m) (omega (arith, k, length-drop a l)) (omega (arith, k, length-drop a m)) others)
+
+-- the tuple behind the first `count`, looked for among them
+pub listed-before : (a count : ℕ) (cells : List ℕ) → 0 < a → count * a + a ≤ length cells
+    → some (same (take (count * a + a - count * a) (drop (count * a) cells))) (tuplesIn (length (take (count * a + a - count * a) (drop (count * a) cells))) (take (count * a) cells))
+    ≡ some (same (take a (drop (count * a) cells))) (rows count a cells)
+listed-before a count cells h fits =
+    let last = take a (drop (count * a) cells) in
+    let front = take (count * a) cells in
+    let long : length front ≡ count * a = length-take-le (count * a) cells (omega arith) in
+    let many : length front / a ≡ count = ap (λ (n : ℕ). n / a) long ∙ mul-div-left count h in
+    ap (λ (t : List ℕ). some (same t) (tuplesIn (length t) front)) (part-is a cells (count * a))
+    ∙ ap (λ (n : ℕ). some (same last) (tuplesIn n front)) (tuple-long a cells (count * a) fits)
+    ∙ ap (λ (n : ℕ). some (same last) (rows n a front)) many
+    ∙ ap (some (same last)) (rows-kept count a front cells (omega arith) (omega arith) (take-take (count * a) (count * a) cells (omega arith)))
 
 rows-more : (n a : ℕ) (l : List ℕ) → rows (n + 1) a l ≡ rows n a l ++ (take a (drop (n * a) l) ∷ [])
 unfolding rows

@@ -6,10 +6,10 @@ use native.Mathlib.Omega.{arith}
 use lib.ListN.{length, length-append}
 use Rattle.meaning.specs.Limits.{variableLimit, valueLimit, ruleLimit}
 use Rattle.meaning.specs.Refusals.{outOfRange, full}
-use Rattle.wcsp.specs.Reading.{Reading, got, times, anyNumber, range, number, name, several, ended}
+use Rattle.reading.specs.Reading.{Reading, got, times, anyNumber, range, number, name, several, ended}
 use Rattle.wcsp.specs.Files.{Header, File, sizeTests, header, table, file}
-use Rattle.wcsp.proofs.Readings.{whatOr, split}
-use Rattle.wcsp.proofs.Judging.{in-range}
+use Rattle.reading.proofs.Readings.{whatOr, split}
+use Rattle.reading.proofs.Judging.{in-range}
 
 times-length : {A : Type 0} (one : List A → ℕ → Reading A) (k : ℕ) (before : List A) (at : ℕ) {l : List A} {p : ℕ} → times one k before at ≡ got l p → length l ≡ length before + k
 unfolding times

@@ -16,15 +16,16 @@ use Rattle.text.specs.Words.{tokenStart}
 use Rattle.state.specs.declared.Refusal.{Refusal}
 use Rattle.state.specs.declared.Sort as Sorts
 use Rattle.state.specs.Promises.{sortSaid}
-use Rattle.wcsp.specs.declared.Step.{Step}
-use Rattle.wcsp.specs.declared.Step.the-variants.{Fault, Read}
+use Rattle.reading.specs.declared.Step.{Step}
+use Rattle.reading.specs.declared.Step.the-variants.{Fault, Read}
 use Rattle.wcsp.specs.declared.tables.Table as Code
-use Rattle.wcsp.specs.Reading.{Reading, got, next, anyNumber, range, judged, number, several, times}
+use Rattle.reading.specs.Reading.{Reading, got, next, anyNumber, range, judged, number, several, times}
 use Rattle.costs.specs.Costs.{sortBy}
 use Rattle.wcsp.specs.Files.{Table, taken, variableTests, countTests, tupleTests, tuple, table}
-use Rattle.wcsp.specs.Steps.{Comes, ComesTo, Filled, Whole, TableKept, NextTable}
-use Rattle.wcsp.proofs.Coming.{comes-by, stops, goes-on, number-is, number-on, last-one}
-use Rattle.wcsp.proofs.Judging.{in-range, tests-passed}
+use Rattle.reading.specs.Steps.{Comes, ComesTo}
+use Rattle.wcsp.specs.Steps.{Filled, Whole, TableKept, NextTable}
+use Rattle.reading.proofs.Coming.{comes-by, stops, goes-on, number-is, number-on, last-one}
+use Rattle.reading.proofs.Judging.{in-range, tests-passed}
 
 -- the sizes are as many as the variables
 scope-came : (text sizes : List ℕ) (n a at : ℕ) {Kept : List ℕ → ℕ → Type 0} {step : Step} → n ≤ length sizes → Comes (several text (variableTests n) a at) Kept step

@@ -13,14 +13,15 @@ use Rattle.meaning.specs.Calls.{some, same, rows}
 use Rattle.text.specs.Words.{tokenStart}
 use Rattle.state.specs.declared.Refusal.{Refusal}
 use Rattle.state.specs.declared.Refusal.the-variants as Wrong
-use Rattle.wcsp.specs.declared.Step.{Step}
-use Rattle.wcsp.specs.declared.Step.the-variants.{Fault, Read}
-use Rattle.wcsp.specs.Reading.{fault, got, anyNumber, judged, number, several}
+use Rattle.reading.specs.declared.Step.{Step}
+use Rattle.reading.specs.declared.Step.the-variants.{Fault, Read}
+use Rattle.reading.specs.Reading.{fault, got, anyNumber, judged, number, several}
 use Rattle.costs.specs.Costs.{sameSaid}
 use Rattle.wcsp.specs.Files.{valueTests, tupleTests, tuple}
-use Rattle.wcsp.specs.Steps.{Comes, ComesTo, Behind, Filled, NextTuple}
-use Rattle.wcsp.proofs.Coming.{comes-by, stops, goes-on, number-on}
-use Rattle.wcsp.proofs.Judging.{judged-refused, judged-passed}
+use Rattle.reading.specs.Steps.{Comes, ComesTo}
+use Rattle.wcsp.specs.Steps.{Behind, Filled, NextTuple}
+use Rattle.reading.proofs.Coming.{comes-by, stops, goes-on, number-on}
+use Rattle.reading.proofs.Judging.{judged-refused, judged-passed}
 use Rattle.wcsp.proofs.Heaping.{rows-are}
 
 module _ (text sizes scope : List ℕ) (a default at count : ℕ) (before after : List ℕ) (long : length scope ≡ a) (behind : Behind (count * a) before after) where

@@ -10,7 +10,7 @@ use Rattle.state.proofs.Unique.{holds-unique, same-refusal, not-accepted}
 use Rattle.wcsp.specs.declared.Outcome.{Outcome}
 use Rattle.wcsp.specs.declared.Outcome.the-variants.{Accepted, Refused}
 use Rattle.wcsp.specs.declared.Loaded.{Loaded}
-use Rattle.wcsp.specs.Reading.{Reading, fault, got}
+use Rattle.reading.specs.Reading.{Reading, fault, got}
 use Rattle.wcsp.specs.Files.{File, file}
 use Rattle.wcsp.specs.Promises.{Reads, said}
 

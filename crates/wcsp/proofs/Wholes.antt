@@ -13,16 +13,17 @@ use Rattle.meaning.proofs.Proper.{number-above}
 use Rattle.state.specs.Promises.{tableOf}
 use Rattle.state.specs.Holds.{Holds}
 use Rattle.state.specs.Runs.{Run}
-use Rattle.wcsp.specs.declared.Step.{Step}
-use Rattle.wcsp.specs.declared.Step.the-variants.{Fault, Read}
+use Rattle.reading.specs.declared.Step.{Step}
+use Rattle.reading.specs.declared.Step.the-variants.{Fault, Read}
 use Rattle.wcsp.specs.declared.loading.Attempt as Code
 use Rattle.wcsp.specs.declared.Outcome.the-variants.{Accepted, Refused}
-use Rattle.wcsp.specs.Reading.{fault, several, times, ended}
+use Rattle.reading.specs.Reading.{fault, several, times, ended}
 use Rattle.wcsp.specs.Files.{Header, File, header, sizeTests, table, file, calls, variableCalls, tableCalls}
-use Rattle.wcsp.specs.Steps.{numberOf, Comes, ComesTo, Says, Whole}
+use Rattle.reading.specs.Steps.{numberOf, Comes, ComesTo}
+use Rattle.wcsp.specs.Steps.{Says, Whole}
 use Rattle.wcsp.specs.Promises.{Reads}
-use Rattle.wcsp.proofs.Readings.{faultOf, isFault, whatOr}
-use Rattle.wcsp.proofs.Coming.{comes-by, stops, fault-is, went-on, goes-on, last-one}
+use Rattle.reading.proofs.Readings.{faultOf, isFault, whatOr}
+use Rattle.reading.proofs.Coming.{comes-by, stops, fault-is, went-on, goes-on, last-one}
 
 abbrev Kept : ℕ → State → File → ℕ → Type 0
 Kept n state f v = (length (f .sizes) ≡ n) × Run (calls f) state

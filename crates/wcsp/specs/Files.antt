@@ -10,7 +10,7 @@ use Rattle.meaning.specs.Calls.{Call, Sort, allow, forbid, addVariable, addTabl
 use Rattle.filters.specs.Layout.{joined}
 use Rattle.text.specs.Words.{tokenStart}
 use Rattle.costs.specs.Costs.{sameSaid, sortBy}
-use Rattle.wcsp.specs.Reading.{Reading, fault, got, next, Tests, anyNumber, range, judged, number, name, several, ended, times}
+use Rattle.reading.specs.Reading.{Reading, fault, got, next, Tests, anyNumber, range, judged, number, name, several, ended, times}
 
 pub record Header : Type 0 where
   pub variables : ℕ

@@ -1,5 +1,4 @@
--- The definitions that the contracts of `wcsp` cite. Reading, then Files, say what a file means.
-pub mod Reading
+-- The definitions that the contracts of `wcsp` cite. Files says what a file means, with `Reading` of the crate `reading`.
 pub mod Files
 pub mod Steps
 pub mod Promises

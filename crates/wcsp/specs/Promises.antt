@@ -9,9 +9,9 @@ use Rattle.state.specs.Runs.{Run}
 use Rattle.wcsp.specs.declared.Outcome.{Outcome}
 use Rattle.wcsp.specs.declared.Outcome.the-variants.{Accepted, Refused}
 use Rattle.wcsp.specs.declared.Loaded.{Loaded}
-use Rattle.wcsp.specs.Reading.{fault, got}
+use Rattle.reading.specs.Reading.{fault, got}
 use Rattle.wcsp.specs.Files.{File, file, calls}
-use Rattle.wcsp.specs.Steps.{numberOf}
+use Rattle.reading.specs.Steps.{numberOf}
 
 -- document 01's number and the byte offset; 0 and 0 where the file is accepted
 abbrev pub said : Outcome → ℕ × ℕ

@@ -1,35 +1,18 @@
--- What a step of the reader's code says of the reading that it stands for.
+-- What the reader's code keeps of what it has read.
 use mathlib.Core.Path.{_≡_}
 use mathlib.Core.Bool.{Bool}
 use mathlib.Core.List.{List, List·Memᴰ}
 use Prim.Native.Nat.{ℕ, _+_, _*_, _≤_, _<_}
 use lib.ListN.{length, getD, take, drop}
 use Rattle.meaning.specs.Limits.{variableLimit, valueLimit, ruleLimit, roomLimit, arityLimit}
-use Rattle.meaning.specs.Refusals as Numbers
 use Rattle.tuples.specs.Keys.{keyLimit, Marked}
-use Rattle.state.specs.declared.Refusal.{Refusal}
-use Rattle.state.specs.Promises.{tableOf, sortSaid}
+use Rattle.state.specs.Promises.{sortSaid}
 use Rattle.filters.specs.Layout.{joined}
-use Rattle.wcsp.specs.declared.Step.{Step}
-use Rattle.wcsp.specs.declared.Step.the-variants.{Fault, Read}
+use Rattle.reading.specs.declared.Step.{Step}
+use Rattle.reading.specs.declared.Step.the-variants.{Read}
+use Rattle.reading.specs.Steps.{Comes}
 use Rattle.wcsp.specs.declared.tables.Table as Kept
-use Rattle.wcsp.specs.Reading.{Reading, fault, got}
 use Rattle.wcsp.specs.Files.{Header, Table, taken, tuple, table}
-
--- document 01's number
-abbrev pub numberOf : Refusal → ℕ
-numberOf r = Numbers.number (tableOf r)
-
--- the step is the reading's fault; or it goes on where the reading does, and what was read is so kept
-abbrev pub Told : {A : Type 0} → Reading A → (A → ℕ → Type 0) → Step → Type 0
-Told reading Kept (Fault r at) = reading ≡ fault (numberOf r) at
-Told {A} reading Kept (Read v place) = (x : A) × (reading ≡ got x place) × Kept x v
-
-pub record Comes {A : Type 0} (reading : Reading A) (Kept : A → ℕ → Type 0) (step : Step) : Type 0 where
-  pub told : Told reading Kept step
-
-abbrev pub ComesTo : Reading ℕ → Step → Type 0
-ComesTo reading step = Comes reading (λ x v. x ≡ v) step
 
 -- every number of the list is below k
 abbrev pub Under : ℕ → List ℕ → Type 0

@@ -1,16 +1,15 @@
 // The first line of a file: name, numbers of variables, largest size, number of constraints, upper bound.
 ghost use mathlib.Core.Path.{_≡_};
-ghost use Rattle.wcsp.specs.Reading.{name};
+ghost use Rattle.reading.specs.Steps.{Comes};
 ghost use Rattle.wcsp.specs.Files.{header};
-ghost use Rattle.wcsp.specs.Steps.{Comes, ComesTo, Bounded, Says};
-use crate::Step;
-use crate::numbers::any_number;
-use crate::numbers::number_within;
+ghost use Rattle.wcsp.specs.Steps.{Bounded, Says};
 use meaning::RULES;
 use meaning::VARIABLES;
+use reading::Step;
+use reading::any_number;
+use reading::number_within;
+use reading::skip_name;
 use state::Refusal;
-use text::NameRead;
-use text::read_name;
 
 // A value is below it.
 const VALUES: usize = 64;
@@ -21,17 +20,6 @@ pub(crate) struct Header {
     pub(crate) variables: usize,
     pub(crate) largest: usize,
     pub(crate) constraints: usize,
-}
-
-// The name; nothing of it is kept.
-fn skip_name(text: &[u8]) -> Step
-    ensures { λ r. ⌜ ComesTo (name (now (text .entry)) 0) r ⌝ }
-{
-    let read = read_name(text, 0);
-    match read {
-        NameRead::NoName { start } => Step::Fault(Refusal::Malformed, start),
-        NameRead::Name { after } => Step::Read(0, after),
-    }
 }
 
 fn no_header(step: Step) -> Header
@@ -48,7 +36,7 @@ fn no_header(step: Step) -> Header
 pub(crate) fn read_header(text: &[u8]) -> Header
     ensures { λ r. ⌜ Bounded (r .variables) (r .largest) (r .constraints) × Comes (header (now (text .entry))) (λ h v. Says h (r .variables) (r .largest) (r .constraints)) (r .step) ⌝ }
 {
-    let named = skip_name(text);
+    let named = skip_name(text, 0);
     let Step::Read(_, to_variables) = named else {
         return no_header(named);
     };

@@ -1,23 +1,17 @@
 // Reading wcsp files (document 01): left to right, to the first fault or to the state that the file's calls leave.
 ghost use Rattle.wcsp.specs.Promises.{Reads};
+use reading::Step;
 use state::Refusal;
 use state::State;
 
 mod header;
 mod listing;
 mod loading;
-mod numbers;
 mod scopes;
 mod sizes;
 mod tables;
 
 use loading::load;
-
-// How far the reading came: a fault, at a byte; or a number, and the place after it.
-pub(crate) enum Step {
-    Fault(Refusal, usize),
-    Read(usize, usize),
-}
 
 // What a file comes to: accepted, or refused at a byte.
 pub enum Outcome {

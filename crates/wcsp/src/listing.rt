@@ -1,23 +1,24 @@
 // The tuples of a table.
 ghost use mathlib.Core.Path.{_≡_};
 ghost use mathlib.Core.List.{[]};
-ghost use Prim.Native.Nat.{_+_, _*_, _≤_};
+ghost use Prim.Native.Nat.{_+_, _*_, _≤_, _<_};
 ghost use lib.ListN.{length, take, drop};
 ghost use Rattle.meaning.specs.Limits.{variableLimit, roomLimit, arityLimit};
 ghost use Rattle.meaning.specs.Calls.{some, same, rows};
-ghost use Rattle.wcsp.specs.Reading.{several, times};
+ghost use Rattle.reading.specs.Reading.{several, times};
+ghost use Rattle.reading.specs.Steps.{Comes};
 ghost use Rattle.wcsp.specs.Files.{valueTests, tuple};
-ghost use Rattle.wcsp.specs.Steps.{Comes, Under, Behind, Filled, Keyed, KeyedOn, NextTuple};
-use crate::Step;
-use crate::numbers::any_number;
-use crate::numbers::number_below;
+ghost use Rattle.wcsp.specs.Steps.{Under, Behind, Filled, Keyed, KeyedOn, NextTuple};
 use costs::says_same;
 use meaning::ROOM;
 use meaning::VARIABLES;
+use reading::Step;
+use reading::any_number;
+use reading::number_below;
 use state::Refusal;
 use text::skip_blanks;
 use tuples::KEYS;
-use tuples::are_same;
+use tuples::is_listed;
 use tuples::key_of;
 
 // One tuple, into the cells from a start on: each value below its variable's size.
@@ -49,34 +50,18 @@ fn read_tuple(
     Step::Read(arity, place)
 }
 
-// Whether the tuple behind the first `count` is one of them.
-fn listed(cells: &[u8], count: usize, arity: usize) -> bool
-    requires { ⌜ (count * arity + arity ≤ roomLimit) × (length (now cells) ≡ roomLimit) ⌝ }
-    ensures { λ r. ⌜ r ≡ some (same (take arity (drop (count * arity) (now (cells .entry))))) (rows count arity (now (cells .entry))) ⌝ }
-{
-    let last = count * arity;
-    let mut i = 0;
-    while i < count {
-        let at = i * arity;
-        if are_same(&cells[last..last + arity], &cells[at..at + arity]) {
-            return true;
-        }
-        i += 1;
-    }
-    false
-}
-
-// The same, with marks at the keys of the first `count`; its own key is marked too.
+// Whether the tuple behind the first `count` is one of them, with marks at their keys; its own key is marked too.
 fn listed_by_key(cells: &[u8], count: usize, arity: usize, marked: &mut [bool; KEYS]) -> bool
-    requires { ⌜ (count * arity + arity ≤ roomLimit) × (length (now cells) ≡ roomLimit) ⌝ }
+    requires { ⌜ (count * arity + arity ≤ roomLimit) × (length (now cells) ≡ roomLimit) × (0 < arity) ⌝ }
     requires { ⌜ Keyed (now marked) (rows count arity (now cells)) ⌝ }
     ensures { λ r. ⌜ r ≡ some (same (take arity (drop (count * arity) (now (cells .entry))))) (rows count arity (now (cells .entry))) ⌝ }
     ensures { λ r. ⌜ Keyed (now (marked .exit)) (rows (count + 1) arity (now (cells .entry))) ⌝ }
 {
     let last = count * arity;
-    let key = key_of(&cells[last..last + arity]);
+    let tuple = &cells[last..last + arity];
+    let key = key_of(tuple);
     if marked[key] {
-        return listed(cells, count, arity);
+        return is_listed(tuple, &cells[..last]);
     }
     marked[key] = true;
     false
@@ -94,7 +79,7 @@ fn next_tuple(
     count: usize,
     marked: &mut [bool; KEYS],
 ) -> Step
-    requires { ⌜ Under 65 sizes × Under variableLimit scope × (arity ≤ arityLimit) × (count * arity + arity ≤ roomLimit) × (length (now cells) ≡ roomLimit) ⌝ }
+    requires { ⌜ Under 65 sizes × Under variableLimit scope × (arity ≤ arityLimit) × (count * arity + arity ≤ roomLimit) × (length (now cells) ≡ roomLimit) × (0 < arity) ⌝ }
     requires { ⌜ Keyed (now marked) (rows count arity (now cells)) ⌝ }
     ensures { λ r. ⌜ NextTuple (now (text .entry)) sizes (take arity scope) arity default at count (now (cells .entry)) (now (cells .exit)) r ⌝ }
     ensures { λ r. ⌜ KeyedOn (rows (count + 1) arity (now (cells .exit))) (now (marked .exit)) r ⌝ }
@@ -124,7 +109,7 @@ pub(crate) fn read_tuples(
     count: usize,
     cells: &mut [u8; ROOM],
 ) -> Step
-    requires { ⌜ Under 65 sizes × Under variableLimit scope × (arity ≤ arityLimit) × (count * arity ≤ roomLimit) × (length (now cells) ≡ roomLimit) ⌝ }
+    requires { ⌜ Under 65 sizes × Under variableLimit scope × (arity ≤ arityLimit) × (count * arity ≤ roomLimit) × (length (now cells) ≡ roomLimit) × (0 < arity) ⌝ }
     ensures { λ r. ⌜ (length (now (cells .exit)) ≡ roomLimit) × Comes (times (tuple (now (text .entry)) sizes (take arity scope) default) count [] at) (λ ts v. Filled arity count ts (now (cells .exit))) r ⌝ }
 {
     let mut marked = [false; KEYS];

@@ -5,17 +5,16 @@ ghost use Prim.Native.Nat.{_≤_};
 ghost use lib.ListN.{length, take};
 ghost use Rattle.meaning.specs.Limits.{variableLimit};
 ghost use Rattle.state.specs.Runs.{Run};
-ghost use Rattle.wcsp.specs.Reading.{ended};
+ghost use Rattle.reading.specs.Steps.{Comes};
 ghost use Rattle.wcsp.specs.Files.{file, calls, variableCalls};
-ghost use Rattle.wcsp.specs.Steps.{Comes, ComesTo, Under};
-use crate::Step;
+ghost use Rattle.wcsp.specs.Steps.{Under};
 use crate::header::read_header;
 use crate::sizes::read_sizes;
 use crate::tables::read_tables;
 use meaning::VARIABLES;
-use state::Refusal;
+use reading::Step;
+use reading::read_end;
 use state::State;
-use text::skip_blanks;
 
 // How far the reading came; the number of variables and the state count where it came to the end.
 pub(crate) struct Attempt {
@@ -38,17 +37,6 @@ fn declared(sizes: [u8; VARIABLES], n: usize) -> State
         i += 1;
     }
     state
-}
-
-// No token is left.
-fn read_end(text: &[u8], at: usize) -> Step
-    ensures { λ r. ⌜ ComesTo (ended (now (text .entry)) at) r ⌝ }
-{
-    let start = skip_blanks(text, at);
-    if start != text.len() {
-        return Step::Fault(Refusal::Malformed, start);
-    }
-    Step::Read(0, at)
 }
 
 fn stopped(step: Step) -> Attempt

@@ -1,14 +1,14 @@
 // The variables of a table.
 ghost use mathlib.Core.Path.{_≡_};
 ghost use Prim.Native.Nat.{_≤_};
-ghost use lib.Dec.{eqb};
 ghost use lib.ListN.{length, take};
 ghost use Rattle.meaning.specs.Limits.{variableLimit, arityLimit};
-ghost use Rattle.meaning.specs.Calls.{some};
-ghost use Rattle.wcsp.specs.Reading.{number, several};
+ghost use Rattle.reading.specs.Reading.{number, several};
+ghost use Rattle.reading.specs.Steps.{Comes, ComesTo};
 ghost use Rattle.wcsp.specs.Files.{variableTests};
-ghost use Rattle.wcsp.specs.Steps.{Comes, ComesTo, Under};
-use crate::Step;
+ghost use Rattle.wcsp.specs.Steps.{Under};
+use arguments::is_named;
+use reading::Step;
 use state::Refusal;
 use text::NumberRead;
 use text::read_number;
@@ -17,21 +17,6 @@ use text::read_number;
 pub(crate) struct Scope {
     pub(crate) step: Step,
     pub(crate) variables: [u8; 8],
-}
-
-// Whether x is among the first `named` variables.
-fn stands(variables: [u8; 8], named: usize, x: usize) -> bool
-    requires { ⌜ named ≤ arityLimit ⌝ }
-    ensures { λ r. ⌜ r ≡ some (eqb x) (take named variables) ⌝ }
-{
-    let mut i = 0;
-    while i < named {
-        if x == variables[i] as usize {
-            return true;
-        }
-        i += 1;
-    }
-    false
 }
 
 // One of n variables that isn't among those named before it.
@@ -51,7 +36,7 @@ fn next_variable(text: &[u8], at: usize, n: usize, variables: [u8; 8], named: us
             if n <= x {
                 return Step::Fault(Refusal::NoSuchVariable, start);
             }
-            if stands(variables, named, x) {
+            if is_named(&variables[..named], x) {
                 return Step::Fault(Refusal::VariableTwice, start);
             }
             Step::Read(x, after)

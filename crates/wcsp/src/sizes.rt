@@ -3,12 +3,13 @@ ghost use mathlib.Core.Path.{_≡_};
 ghost use Prim.Native.Nat.{_≤_};
 ghost use lib.ListN.{length, take};
 ghost use Rattle.meaning.specs.Limits.{variableLimit, valueLimit};
-ghost use Rattle.wcsp.specs.Reading.{several};
+ghost use Rattle.reading.specs.Reading.{several};
+ghost use Rattle.reading.specs.Steps.{Comes};
 ghost use Rattle.wcsp.specs.Files.{sizeTests};
-ghost use Rattle.wcsp.specs.Steps.{Comes, Under, Whole};
-use crate::Step;
-use crate::numbers::number_within;
+ghost use Rattle.wcsp.specs.Steps.{Under, Whole};
 use meaning::VARIABLES;
+use reading::Step;
+use reading::number_within;
 use state::Refusal;
 
 // The sizes read, in the first places.

@@ -3,23 +3,25 @@ ghost use mathlib.Core.Path.{_≡_};
 ghost use mathlib.Core.List.{[]};
 ghost use Prim.Native.Nat.{_≤_};
 ghost use lib.ListN.{length, take};
-ghost use Rattle.meaning.specs.Limits.{variableLimit, roomLimit};
+ghost use Rattle.meaning.specs.Limits.{variableLimit, roomLimit, arityLimit};
 ghost use Rattle.state.specs.Runs.{Run};
-ghost use Rattle.wcsp.specs.Reading.{times};
-ghost use Rattle.wcsp.specs.Files.{table, tableCalls, variableCalls};
-ghost use Rattle.wcsp.specs.Steps.{Comes, Under, Whole, NextTable};
-use crate::Step;
+ghost use Rattle.reading.specs.Reading.{number, times};
+ghost use Rattle.reading.specs.Steps.{Comes, ComesTo};
+ghost use Rattle.wcsp.specs.Files.{countTests, table, tableCalls, variableCalls};
+ghost use Rattle.wcsp.specs.Steps.{Under, Whole, NextTable};
 use crate::listing::read_tuples;
-use crate::numbers::any_number;
-use crate::numbers::number_within;
-use crate::numbers::tuple_count;
 use crate::scopes::read_scope;
 use costs::sort_by;
 use meaning::ROOM;
 use meaning::VARIABLES;
+use reading::Step;
+use reading::any_number;
+use reading::number_within;
 use state::Refusal;
 use state::Sort;
 use state::State;
+use text::NumberRead;
+use text::read_number;
 
 // A table's variables in the first places; its cells are in the lent buffer.
 struct Table {
@@ -34,6 +36,28 @@ struct Table {
 pub(crate) struct Added {
     pub(crate) step: Step,
     pub(crate) state: State,
+}
+
+// How many tuples: the room, some of it used, must hold them.
+fn tuple_count(text: &[u8], at: usize, used: usize, arity: usize) -> Step
+    requires { ⌜ (used ≤ roomLimit) × (arity ≤ arityLimit) ⌝ }
+    ensures { λ r. ⌜ ComesTo (number (now (text .entry)) (countTests used arity) at) r ⌝ }
+{
+    let read = read_number(text, at);
+    match read {
+        NumberRead::Malformed { start } => Step::Fault(Refusal::Malformed, start),
+        NumberRead::Number {
+            value,
+            start,
+            after,
+        } => {
+            let count = value as usize;
+            if ROOM < used + (arity + arity * count) {
+                return Step::Fault(Refusal::Full, start);
+            }
+            Step::Read(count, after)
+        }
+    }
 }
 
 fn no_table(step: Step) -> Table

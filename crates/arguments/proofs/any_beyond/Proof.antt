@@ -7,7 +7,7 @@ use lib.ListN.{length, getD, drop}
 use Rattle.meaning.specs.Limits.{coefficientLimit}
 use Rattle.meaning.specs.Calls.{some, beyond}
 use Rattle.arguments.proofs.Limits.{as-read}
-use Rattle.arguments.proofs.Searching.{some-steps, found-at, passed-at, missed-at}
+use Rattle.meaning.proofs.Searching.{some-steps, found-at, passed-at, missed-at}
 use Rattle.arguments.proofs.any_beyond.Statement.{statement}
 use Rattle.arguments.proofs.any_beyond.Tie as tie
 

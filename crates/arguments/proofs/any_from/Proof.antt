@@ -7,7 +7,7 @@ use native.Mathlib.Omega.{arith}
 use lib.Dec.{leb}
 use borrow.Author.Tests.{le-leb, lt-leb}
 use Rattle.meaning.specs.Calls.{some}
-use Rattle.arguments.proofs.Searching.{some-steps, found-at, passed-at, missed-at}
+use Rattle.meaning.proofs.Searching.{some-steps, found-at, passed-at, missed-at}
 use Rattle.arguments.proofs.any_from.Statement.{statement}
 use Rattle.arguments.proofs.any_from.Tie as tie
 

@@ -8,7 +8,7 @@ use native.Mathlib.Omega.{arith}
 use lib.ListN.{length}
 use borrow.Author.Needs.{needs}
 use Rattle.arguments.proofs.Keys.{Passed, passed-none, none-twice, one-left, unmarked-once, passed-one, found-twice, no-tuples}
-use Rattle.arguments.proofs.Tuples.{part-is}
+use Rattle.tuples.proofs.Rows.{part-is}
 use Rattle.arguments.specs.Checks.{listedAgain}
 use Rattle.tuples.specs.Keys.{keyFrom}
 use Rattle.arguments.proofs.tuple_twice.Statement.{statement}
@@ -73,7 +73,7 @@ listed-again-requires : tie.Need-listed-again-requires Inv-loop μ-loop
 listed-again-requires c κs = let a = c .before .before .before .before .before .before .before .args in
     let l = c .before .before .before .before .loop in
     let some : 0 < a .arity = omega (arith, c .before .before .before .before .before .if1 .left) in
-    (some, omega (arith, one-left (a .arity) some (a .cells .now) (l .place) (l .marked) (l .inv) (search needs), l .inv .inside))
+    omega (arith, one-left (a .arity) some (a .cells .now) (l .place) (l .marked) (l .inv) (search needs), l .inv .inside)
 
 returns-2 : tie.Need-returns-2 Inv-loop μ-loop
 returns-2 c = let a = c .before .before .before .before .before .before .before .before .before .args in

@@ -1,18 +1,18 @@
 -- `blocks::clear_after` meets its contract. The loop: the places from the first up to the i-th are empty. Assumes nothing.
 use Prim.Native.Nat.{_+_, _≤_, _-_, _*_}
 use native.Mathlib.Omega.{arith}
-use mathlib.Core.Path.{_≡_}
-use lib.ListN.{replicate}
-use lib.Seq.{paste, paste-zero}
+use mathlib.Core.Path.{_≡_, refl}
+use lib.ListN.{take, replicate}
+use lib.Seq.{sets}
 use Rattle.blocks.specs.Blocks.{blockPlaces}
 use Rattle.blocks.proofs.Copying.{zero-more}
-use Rattle.blocks.proofs.Writing.{nothing-after}
+use Rattle.blocks.proofs.Writing.{nothing-after, emptied}
 use borrow.Author.Needs.{needs}
 use Rattle.blocks.proofs.clear_after.Statement.{statement}
 use Rattle.blocks.proofs.clear_after.Tie as tie
 
 abbrev Inv-loop : tie.InvT-loop
-Inv-loop lists₀ k i₀ lists i = (i ≤ blockPlaces) × (i₀ ≤ i) × (lists ≡ paste lists₀ i₀ (replicate (blockPlaces - i₀) 0) (i - i₀))
+Inv-loop lists₀ k i₀ lists i = (i ≤ blockPlaces) × (i₀ ≤ i) × (lists ≡ sets lists₀ i₀ (take (i - i₀) (replicate (blockPlaces - i₀) 0)))
 
 abbrev μ-loop : tie.MeasureT-loop
 μ-loop lists₀ k i₀ lists i = blockPlaces - i
@@ -28,10 +28,9 @@ add-i c = search needs
 
 loop-holds : tie.Need-loop-holds Inv-loop μ-loop
 loop-holds c =
-    let a = c .before .args in
-    let from = 32 * a .k + 32 in
+    let from = 32 * c .before .args .k + 32 in
     let none : from - from ≡ 0 = omega arith in
-    (search needs, search needs, rw none (paste-zero (a .lists .now) from (replicate (blockPlaces - from) 0)))
+    (search needs, search needs, rw none refl)
 
 mul-lists : tie.Need-mul-lists Inv-loop μ-loop
 mul-lists c = search needs
@@ -49,12 +48,13 @@ loop-again : tie.Need-loop-again Inv-loop μ-loop
 loop-again c =
     let a = c .before .before .before .args in
     let at = c .before .loop in
-    (search needs, search needs, zero-more (a .lists .now) (32 * a .k + 32) (at .i) (at .lists) (search needs) (search needs) (search needs) (at .inv .2))
+    (search needs, search needs, zero-more (a .lists .now) (32 * a .k + 32) (at .i) (at .lists) (search needs) (search needs) (at .inv .2))
 
 returns-2 : tie.Need-returns-2 Inv-loop μ-loop
 returns-2 c =
+    let a = c .before .before .before .args in
     let end : c .before .loop .i ≡ blockPlaces = search needs in
-    rw end at (c .before .loop .inv .2)
+    emptied (a .lists .now) (32 * a .k + 32) (rw end at (c .before .loop .inv .2))
 
 pub clear-after-spec : {M : Type 1} → statement M
 clear-after-spec =

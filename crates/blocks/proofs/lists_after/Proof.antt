@@ -18,7 +18,7 @@ loop-holds : tie.Need-loop-holds Inv-loop μ-loop
 loop-holds c = record { long = refl; few = omega arith; each = λ y h. absurd (omega arith) }
 
 list-of-requires : tie.Need-list-of-requires Inv-loop μ-loop
-list-of-requires c κs = c .before .before .pre
+list-of-requires c κs = search needs
 
 mul-out : tie.Need-mul-out Inv-loop μ-loop
 mul-out c = search needs

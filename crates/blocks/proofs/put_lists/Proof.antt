@@ -1,8 +1,9 @@
 -- `blocks::put_lists` meets its contract. The loop: the first x lists are written. Assumes nothing.
 use Prim.Native.Nat.{_≤_, _-_, _*_}
-use mathlib.Core.Path.{_≡_}
+use mathlib.Core.Path.{_≡_, refl}
 use mir.Syntax.{w64}
-use lib.Seq.{paste, paste-zero}
+use lib.ListN.{take}
+use lib.Seq.{sets}
 use native.Mathlib.Omega.{arith}
 use Rattle.blocks.proofs.Arrays.{array-length}
 use Rattle.blocks.proofs.Copying.{put-more}
@@ -12,7 +13,7 @@ use Rattle.blocks.proofs.put_lists.Statement.{statement}
 use Rattle.blocks.proofs.put_lists.Tie as tie
 
 abbrev Inv-loop : tie.InvT-loop
-Inv-loop lists₀ k left at x₀ lists x = (x ≤ 32) × (lists ≡ paste lists₀ at left x)
+Inv-loop lists₀ k left at x₀ lists x = (x ≤ 32) × (lists ≡ sets lists₀ at (take x left))
 
 abbrev μ-loop : tie.MeasureT-loop
 μ-loop lists₀ k left at x₀ lists x = 32 - x
@@ -24,7 +25,7 @@ mul-at : tie.Need-mul-at Inv-loop μ-loop
 mul-at c = search needs
 
 loop-holds : tie.Need-loop-holds Inv-loop μ-loop
-loop-holds c = let a = c .before .args in (search needs, paste-zero (a .lists .now) (32 * a .k) (a .t3))
+loop-holds c = (search needs, refl)
 
 mul-lists : tie.Need-mul-lists Inv-loop μ-loop
 mul-lists c = search needs
@@ -53,13 +54,15 @@ loop-again c =
     let a = start .args in
     let at = c .before .loop in
     let long = array-length w64 32 (a .t3) _ (start .good .1 .1 .0) in
-    (search needs, put-more (a .lists .now) (32 * a .k) (a .t3) (at .x) (at .lists) (search needs) (omega (arith, c .loop-test .taken)) (at .inv .1))
+    (search needs, put-more (a .lists .now) (32 * a .k) (a .t3) (at .x) (at .lists) (omega (arith, c .loop-test .taken)) (at .inv .1))
 
 returns-2 : tie.Need-returns-2 Inv-loop μ-loop
 returns-2 c =
-    let a = c .before .before .before .args in
+    let start = c .before .before .before in
+    let a = start .args in
+    let long = array-length w64 32 (a .t3) _ (start .good .1 .1 .0) in
     let end : c .before .loop .x ≡ 32 = search needs in
-    in-block (a .lists .now) (a .k) (a .t3) (c .before .before .if1 .left) (rw end at (c .before .loop .inv .1))
+    in-block (a .lists .now) (a .k) (a .t3) (c .before .before .if1 .left) long (rw end at (c .before .loop .inv .1))
 
 pub put-lists-spec : {M : Type 1} → statement M
 put-lists-spec =

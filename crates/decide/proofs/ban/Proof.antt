@@ -8,7 +8,7 @@ use Rattle.decide.proofs.ban.Statement.{statement}
 use Rattle.decide.proofs.ban.Tie as tie
 
 tested-requires : tie.Need-tested-requires
-tested-requires c κs = let z = sizes (c .before .before .pre) in (z .lists, z .depth, z .variables)
+tested-requires c κs = let z = sizes (c .before .before .pre) in (z .depth, z .variables)
 
 enum-told : tie.Need-enum-told
 enum-told c = search needs
@@ -37,7 +37,7 @@ returns c =
     let a = start .args in
     let taken = c .before .before .before .before .before .enum-told .given .1 in
     let place = has-place (a .t1) (a .x) (a .v) (tested .result) (tested .ensures) taken in
-    let here = place-is (a .t1 .lists) (a .t1 .depth) (a .x) (omega (arith, place .0, sizes (start .pre) .variables)) (left .ensures) in
+    let here = place-is (a .t1 .lists) (a .t1 .depth) (a .x) (sizes (start .pre) .depth) (omega (arith, place .0, sizes (start .pre) .variables)) (left .ensures) in
     ban-answers (a .t1) (a .x) (a .v) (c .before .without .result) (c .narrowed .result) (tested .result) (tested .ensures) taken (c .narrowed .ensures)
     (left .result) here (c .before .without .ensures)
 

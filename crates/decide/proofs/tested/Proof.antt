@@ -26,7 +26,7 @@ returns-4 c =
     let start = c .before .before .before .before .before .before in
     let a = start .args in
     let known = c .before .before .before .before .before .if1 .left in
-    let here = place-is (a .lists .now) (a .depth) (a .x) (omega (arith, known, start .pre .2)) (c .before .before .list-of .ensures) in
+    let here = place-is (a .lists .now) (a .depth) (a .x) (start .pre .0) (omega (arith, known, start .pre .1)) (c .before .before .list-of .ensures) in
     tests-left (a .variables) (a .depth) (a .lists .now) (a .x) (a .v) known (c .before .before .before .before .if2 .left) (c .before .before .before .if3 .left)
     (rw here at (c .before .has .ensures .yes (c .if4 .taken)))
 
@@ -35,7 +35,7 @@ returns-5 c =
     let start = c .before .before .before .before .before .before in
     let a = start .args in
     let known = c .before .before .before .before .before .if1 .left in
-    let here = place-is (a .lists .now) (a .depth) (a .x) (omega (arith, known, start .pre .2)) (c .before .before .list-of .ensures) in
+    let here = place-is (a .lists .now) (a .depth) (a .x) (start .pre .0) (omega (arith, known, start .pre .1)) (c .before .before .list-of .ensures) in
     tests-gone (a .variables) (a .depth) (a .lists .now) (a .x) (a .v) known (c .before .before .before .before .if2 .left) (c .before .before .before .if3 .left)
     (rw here at (c .before .has .ensures .no (c .if4 .left)))
 

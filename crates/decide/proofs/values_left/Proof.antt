@@ -18,7 +18,7 @@ returns-2 c =
     let start = c .before .before .before .before in
     let a = start .args in
     let known = c .before .before .before .if1 .left in
-    let here = place-is (a .t1 .lists) (a .t1 .depth) (a .x) (omega (arith, known, sizes (start .pre) .variables)) (c .list-of .ensures) in
+    let here = place-is (a .t1 .lists) (a .t1 .depth) (a .x) (sizes (start .pre) .depth) (omega (arith, known, sizes (start .pre) .variables)) (c .list-of .ensures) in
     left-known (a .t1) (a .x) (c .list-of .result) known here
 
 pub values-left-spec : {M : Type 1} → statement M

@@ -1,7 +1,7 @@
 -- `wcsp::header::read_header` meets its contract. Each number goes on from the one before it. Assumes nothing.
 use mathlib.Core.Path.{refl, _∙_}
-use Rattle.wcsp.proofs.Coming.{comes-by, stops, number-is, number-on, last-one}
-use Rattle.wcsp.proofs.Judging.{in-range}
+use Rattle.reading.proofs.Coming.{comes-by, stops, number-is, number-on, last-one}
+use Rattle.reading.proofs.Judging.{in-range}
 use Rattle.wcsp.proofs.Heading.{nothing-kept}
 use borrow.Author.Needs.{needs}
 use Rattle.wcsp.proofs.header.read_header.Statement.{statement}

@@ -18,8 +18,7 @@ mul-read-tuple : tie.Need-mul-read-tuple
 mul-read-tuple c = search needs
 
 read-tuple-requires : tie.Need-read-tuple-requires
-read-tuple-requires c κs =
-    c .before .before .pre .0
+read-tuple-requires c κs = let p = c .before .before .pre .0 in (p .0, p .1, p .2, p .3, p .4)
 
 enum-known-step : tie.Need-enum-known-step
 enum-known-step c = search needs
@@ -58,7 +57,7 @@ listed-by-key-requires c κs =
     let a = c .before .before .before .before .before .before .before .before .before .before .before .before .before .before .before .args in
     let p = c .before .before .before .before .before .before .before .before .before .before .before .before .before .before .before .pre in
     let behind = c .before .before .before .before .before .before .before .before .before .before .before .before .read-tuple .ensures .0 in
-    ((p .0 .3, behind .long ∙ p .0 .4), keyed-behind (a .arity) (a .count) (a .cells .now) _ (omega (arith, p .0 .3, p .0 .4)) behind (p .1))
+    ((p .0 .3, behind .long ∙ p .0 .4, p .0 .5), keyed-behind (a .arity) (a .count) (a .cells .now) _ (omega (arith, p .0 .3, p .0 .4)) behind (p .1))
 
 skip-blanks-requires : tie.Need-skip-blanks-requires
 skip-blanks-requires c κs = search needs

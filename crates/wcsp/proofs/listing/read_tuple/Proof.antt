@@ -7,10 +7,10 @@ use borrow.Author.Tests.{leb-false}
 use lib.ListN.{getD, take, drop}
 use Rattle.wcsp.specs.Files.{valueTests}
 use Rattle.wcsp.specs.Steps.{Behind}
-use Rattle.wcsp.proofs.Coming.{number-is}
-use Rattle.wcsp.proofs.Judging.{tests-passed}
+use Rattle.reading.proofs.Coming.{number-is}
+use Rattle.reading.proofs.Judging.{tests-passed}
 use Rattle.wcsp.proofs.Heaping.{behind-none, behind-set}
-use Rattle.wcsp.proofs.Several.{NumbersSoFar, none-yet, next-number, fault-there, all-read, put-from}
+use Rattle.reading.proofs.Several.{NumbersSoFar, none-yet, next-number, fault-there, all-read, put-from}
 use Rattle.wcsp.proofs.Tupling.{value-came}
 use Rattle.wcsp.proofs.listing.read_tuple.Statement.{statement}
 use Rattle.wcsp.proofs.listing.read_tuple.Tie as tie

@@ -11,7 +11,7 @@ use Rattle.meaning.specs.Calls.{rows}
 use Rattle.wcsp.specs.Steps.{Filled, Keyed}
 use Rattle.wcsp.proofs.Heaping.{filled-none, filled-more, row-inside}
 use Rattle.wcsp.proofs.Keying.{keyed-none}
-use Rattle.wcsp.proofs.Several.{SoFar, none-yet, one-more, fault-there, all-read}
+use Rattle.reading.proofs.Several.{SoFar, none-yet, one-more, fault-there, all-read}
 use Rattle.wcsp.proofs.listing.read_tuples.Statement.{statement}
 use Rattle.wcsp.proofs.listing.read_tuples.Tie as tie
 
@@ -29,7 +29,7 @@ next-tuple-requires c κs =
     let a = c .before .before .before .before .before .args in
     let p = c .before .before .before .before .before .pre in
     let l = c .before .before .before .loop in
-    ((p .0, p .1, p .2, omega (arith, row-inside (l .i) (a .count) (a .arity) (c .before .before .loop-test .taken), p .3), l .inv .0), l .inv .1)
+    ((p .0, p .1, p .2, omega (arith, row-inside (l .i) (a .count) (a .arity) (c .before .before .loop-test .taken), p .3), l .inv .0, p .5), l .inv .1)
 
 enum-known-step : tie.Need-enum-known-step Inv-loop μ-loop
 enum-known-step c = search needs

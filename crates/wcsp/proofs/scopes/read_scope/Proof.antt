@@ -7,11 +7,12 @@ use borrow.Author.Needs.{needs}
 use native.Mathlib.Omega.{arith}
 use lib.ListN.{length, take, length-set}
 use Rattle.wcsp.specs.Steps.{Under}
-use Rattle.wcsp.proofs.Coming.{number-is}
-use Rattle.wcsp.proofs.Several.{NumbersSoFar, none-yet, next-number, fault-there, all-read, put-next, under-zeros, under-set}
+use Rattle.reading.proofs.Coming.{number-is}
+use Rattle.reading.proofs.Several.{NumbersSoFar, none-yet, next-number, fault-there, all-read, put-next}
+use Rattle.wcsp.proofs.Buffers.{under-zeros, under-set}
 use borrow.Author.Tests.{leb-false}
 use Rattle.wcsp.specs.Files.{variableTests}
-use Rattle.wcsp.proofs.Judging.{tests-passed}
+use Rattle.reading.proofs.Judging.{tests-passed}
 use Rattle.wcsp.proofs.scopes.read_scope.Statement.{statement}
 use Rattle.wcsp.proofs.scopes.read_scope.Tie as tie
 

@@ -1,5 +1,5 @@
 -- `wcsp::sizes::read_sizes` meets its contract. The loop: the first i sizes are read. Assumes nothing.
-use Rattle.wcsp.proofs.Several.{zero-set, zeros-behind}
+use Rattle.wcsp.proofs.Buffers.{zero-set, zeros-behind}
 use lib.ListN.{getD}
 use Rattle.blocks.proofs.Copying.{zeros-at}
 use mathlib.Core.Path.{ap}
@@ -10,10 +10,11 @@ use borrow.Author.Needs.{needs}
 use native.Mathlib.Omega.{arith}
 use lib.ListN.{length, take, length-set}
 use Rattle.wcsp.specs.Steps.{Under}
-use Rattle.wcsp.proofs.Coming.{number-is}
-use Rattle.wcsp.proofs.Several.{NumbersSoFar, none-yet, next-number, fault-there, all-read, put-next, under-zeros, under-set}
+use Rattle.reading.proofs.Coming.{number-is}
+use Rattle.reading.proofs.Several.{NumbersSoFar, none-yet, next-number, fault-there, all-read, put-next}
+use Rattle.wcsp.proofs.Buffers.{under-zeros, under-set}
 use Rattle.wcsp.specs.Files.{sizeTests}
-use Rattle.wcsp.proofs.Judging.{in-range}
+use Rattle.reading.proofs.Judging.{in-range}
 use Rattle.wcsp.proofs.sizes.read_sizes.Statement.{statement}
 use Rattle.wcsp.proofs.sizes.read_sizes.Tie as tie
 

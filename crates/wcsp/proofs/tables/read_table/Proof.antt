@@ -2,8 +2,8 @@
 use mathlib.Core.Path.{_≡_}
 use native.Mathlib.Omega.{arith}
 use lib.ListN.{length}
-use Rattle.wcsp.proofs.Coming.{number-is}
-use Rattle.wcsp.proofs.Judging.{in-range, tests-passed}
+use Rattle.reading.proofs.Coming.{number-is}
+use Rattle.reading.proofs.Judging.{in-range, tests-passed}
 use Rattle.wcsp.proofs.Tabling.{no-arity, no-scope, no-default, no-count, the-table, room-holds}
 use mir.Syntax.{w8}
 use Rattle.blocks.proofs.Arrays.{array-length}
@@ -94,7 +94,8 @@ read-tuples-requires c κs =
     let a = c .before .before .before .before .before .before .before .before .before .before .before .before .before .before .before .before .before .before .before .args in
     let p = c .before .before .before .before .before .before .before .before .before .before .before .before .before .before .before .before .before .before .before .pre in
     let room = room-holds (a .used) (c .before .before .before .before .before .before .before .before .before .before .before .before .before .before .before .first .given .0 .0) (c .before .before .before .counted .given .0 .0) (tests-passed _ _ _ (number-is (c .before .before .before .before .before .tuple-count .ensures) (c .before .before .before .counted .given .1)) .0) in
-    (p .0, (c .before .before .before .before .before .before .before .before .before .before .before .before .before .read-scope .ensures) .0, in-range _ _ _ _ _ _ (number-is (c .before .before .before .before .before .before .before .before .before .before .before .before .before .before .before .before .before .number-within .ensures) (c .before .before .before .before .before .before .before .before .before .before .before .before .before .before .before .first .given .1)) .1, omega (arith, room), p .4)
+    let arity = in-range _ _ _ _ _ _ (number-is (c .before .before .before .before .before .before .before .before .before .before .before .before .before .before .before .before .before .number-within .ensures) (c .before .before .before .before .before .before .before .before .before .before .before .before .before .before .before .first .given .1)) in
+    (p .0, (c .before .before .before .before .before .before .before .before .before .before .before .before .before .read-scope .ensures) .0, arity .1, omega (arith, room), p .4, arity .0)
 
 sort-by-requires : tie.Need-sort-by-requires
 sort-by-requires c κs = search needs

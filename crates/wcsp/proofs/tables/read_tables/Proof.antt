@@ -10,7 +10,7 @@ use Rattle.meaning.specs.Limits.{roomLimit}
 use Rattle.state.specs.Runs.{Run}
 use Rattle.state.proofs.Runs.{run-reached}
 use Rattle.wcsp.specs.Files.{Table, taken, table, variableCalls, tableCalls}
-use Rattle.wcsp.proofs.Several.{SoFar, none-yet, one-more, fault-there, all-read}
+use Rattle.reading.proofs.Several.{SoFar, none-yet, one-more, fault-there, all-read}
 use Rattle.wcsp.proofs.Adding.{table-runs, used-more, no-tables, none-taken}
 use Rattle.wcsp.proofs.tables.read_tables.Statement.{statement}
 use Rattle.wcsp.proofs.tables.read_tables.Tie as tie

@@ -1,0 +1,21 @@
+-- Any two results that a public contract of this crate allows are the same. Assumes nothing.
+use mathlib.Core.Path.{_≡_, refl, sym, ap, ap₂, _∙_}
+use mathlib.Core.Bool.{true≢false}
+use Prim.Native.Nat.{ℕ}
+use Rattle.state.proofs.Unique.{same-refusal}
+use Rattle.reading.specs.declared.Step.{Step}
+use Rattle.reading.specs.declared.Step.the-variants.{Fault, Read}
+use Rattle.reading.specs.Reading.{Reading, fault, got}
+use Rattle.reading.specs.Steps.{numberOf, ComesTo}
+use Rattle.reading.proofs.Readings.{faultOf, isFault, whatOr, placeOr}
+
+-- each contract says that the step is that of one reading
+pub step-unique : (reading : Reading ℕ) (s t : Step) → ComesTo reading s → ComesTo reading t → s ≡ t
+step-unique reading (Fault r at) (Fault q to) a b =
+    let e = ap faultOf (sym (a .told) ∙ b .told) in
+    ap₂ Fault (same-refusal r q (ap (λ (p : ℕ × ℕ). p .0) e)) (ap (λ (p : ℕ × ℕ). p .1) e)
+step-unique reading (Fault r at) (Read w q) a b = absurd (true≢false (ap isFault (sym (a .told) ∙ b .told .1)))
+step-unique reading (Read v p) (Fault q to) a b = absurd (true≢false (ap isFault (sym (b .told) ∙ a .told .1)))
+step-unique reading (Read v p) (Read w q) a b =
+    let e = sym (a .told .1) ∙ b .told .1 in
+    ap₂ Read (sym (a .told .2) ∙ ap (whatOr 0) e ∙ b .told .2) (ap (placeOr 0) e)

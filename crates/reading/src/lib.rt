@@ -1,0 +1,107 @@
+// Reading a text left to right: the next number or name, with the tests that it has to pass.
+ghost use mathlib.Core.List.{[], _∷_};
+ghost use lib.Dec.{leb};
+ghost use Rattle.state.specs.Promises.{tableOf};
+ghost use Rattle.reading.specs.Reading.{number, anyNumber, range, name, ended};
+ghost use Rattle.reading.specs.Steps.{ComesTo};
+use state::Refusal;
+use text::NameRead;
+use text::NumberRead;
+use text::read_name;
+use text::read_number;
+use text::skip_blanks;
+
+// How far the reading came: a fault, at a byte; or a number, and the place after it.
+pub enum Step {
+    Fault(Refusal, usize),
+    Read(usize, usize),
+}
+
+// Any number.
+pub fn any_number(text: &[u8], at: usize) -> Step
+    ensures { λ r. ⌜ ComesTo (number (now (text .entry)) anyNumber at) r ⌝ }
+{
+    let read = read_number(text, at);
+    match read {
+        NumberRead::Malformed { start } => Step::Fault(Refusal::Malformed, start),
+        NumberRead::Number {
+            value,
+            start: _,
+            after,
+        } => Step::Read(value as usize, after),
+    }
+}
+
+// A number from low to high.
+pub fn number_within(
+    text: &[u8],
+    at: usize,
+    low: usize,
+    below: Refusal,
+    high: usize,
+    above: Refusal,
+) -> Step
+    ensures { λ r. ⌜ ComesTo (number (now (text .entry)) (range low (tableOf below) high (tableOf above)) at) r ⌝ }
+{
+    let read = read_number(text, at);
+    match read {
+        NumberRead::Malformed { start } => Step::Fault(Refusal::Malformed, start),
+        NumberRead::Number {
+            value,
+            start,
+            after,
+        } => {
+            let v = value as usize;
+            if v < low {
+                return Step::Fault(below, start);
+            }
+            if high < v {
+                return Step::Fault(above, start);
+            }
+            Step::Read(v, after)
+        }
+    }
+}
+
+// A number below the limit.
+pub fn number_below(text: &[u8], at: usize, limit: usize, above: Refusal) -> Step
+    ensures { λ r. ⌜ ComesTo (number (now (text .entry)) (λ v. (leb limit v, tableOf above) ∷ []) at) r ⌝ }
+{
+    let read = read_number(text, at);
+    match read {
+        NumberRead::Malformed { start } => Step::Fault(Refusal::Malformed, start),
+        NumberRead::Number {
+            value,
+            start,
+            after,
+        } => {
+            let v = value as usize;
+            if limit <= v {
+                return Step::Fault(above, start);
+            }
+            Step::Read(v, after)
+        }
+    }
+}
+
+// A name; nothing of it is kept.
+pub fn skip_name(text: &[u8], at: usize) -> Step
+    ensures { λ r. ⌜ ComesTo (name (now (text .entry)) at) r ⌝ }
+{
+    let read = read_name(text, at);
+    match read {
+        NameRead::NoName { start } => Step::Fault(Refusal::Malformed, start),
+        NameRead::Name { after } => Step::Read(0, after),
+    }
+}
+
+// No token is left.
+pub fn read_end(text: &[u8], at: usize) -> Step
+    ensures { λ r. ⌜ ComesTo (ended (now (text .entry)) at) r ⌝ }
+{
+    let start = skip_blanks(text, at);
+    if start != text.len() {
+        return Step::Fault(Refusal::Malformed, start);
+    }
+    Step::Read(0, at)
+}
