@@ -46,6 +46,7 @@ module _ (w : Standing) (p : Proper w) (l : List ℕ) (h : HoldsLists l w) where
     more-out = block-stays l (length (w .decisions) + 1) M long
 
     left : (k : ℕ) → k ≤ length (w .decisions ++ (d ∷ [])) → Largest (upTo (decide w d) k) (block more k (length (w .declared)))
+    unfolding more next
     left k j = by-cases (decLt (length (w .decisions)) k) (λ new. last k (omega (arith, length-append (w .decisions) (d ∷ [])))) (λ old. earlier k (omega arith))
       where
         earlier : (k : ℕ) → k ≤ length (w .decisions) → Largest (upTo (decide w d) k) (block more k (length (w .declared)))
@@ -56,8 +57,9 @@ module _ (w : Standing) (p : Proper w) (l : List ℕ) (h : HoldsLists l w) where
         last : (k : ℕ) → k ≡ length (w .decisions) + 1 → Largest (upTo (decide w d) k) (block more k (length (w .declared)))
         last k e =
             let all = take-all k (w .decisions ++ (d ∷ [])) (omega (arith, length-append (w .decisions) (d ∷ []))) in
-            let b = block-written l (length (w .decisions) + 1) M long (length (w .declared)) (h .long) (omega arith) (p .variables) in
-            rw (e, b, ← e, all) largest
+            let b : block more k (length (w .declared)) ≡ take (length (w .declared)) M =
+            ap (λ (j : ℕ). block more j (length (w .declared))) e ∙ block-written l (length (w .decisions) + 1) M long (length (w .declared)) (h .long) (omega arith) (p .variables) in
+            rw (b, all) largest
 
     pub lists-decided : HoldsLists (sets l (variableLimit * (length (w .decisions) + 1)) M) (decide w d)
     unfolding more next
