@@ -17,8 +17,8 @@ use crate::places::word_at;
 use decide::DecisionAnswer;
 use decide::Left;
 use leximin::Solved;
-use numbers::number_of;
-use state::Answer;
+use refusals::number_of;
+use refusals::Answer;
 use state::Sort;
 use state::State;
 

@@ -20,8 +20,8 @@ use Rattle.meaning.proofs.Proper.{leaves-proper, number-above}
 use Rattle.meaning.proofs.Steps.{cut-between, pin-cut, ban-cut}
 use Rattle.values.specs.Sets.{Alone, Removed}
 use Rattle.state.specs.declared.State.{State}
-use Rattle.state.specs.declared.Refusal.{Refusal}
-use Rattle.state.specs.declared.Refusal.the-variants.{NoSuchVariable}
+use Rattle.refusals.specs.declared.Refusal.{Refusal}
+use Rattle.refusals.specs.declared.Refusal.the-variants.{NoSuchVariable}
 use Rattle.decide.specs.declared.Left.the-variants as Lefts
 use Rattle.decide.specs.declared.DecisionAnswer.{DecisionAnswer}
 use Rattle.decide.specs.declared.DecisionAnswer.the-variants as DecisionAnswers
@@ -29,9 +29,11 @@ use Rattle.filters.specs.Layout.{rulesAt}
 use Rattle.filters.specs.Filter.{LargestIn}
 use Rattle.blocks.specs.Blocks.{block}
 use Rattle.state.specs.Holds.{Holds}
-use Rattle.state.specs.Promises.{Answers, tableOf}
+use Rattle.refusals.specs.Numbers.{tableOf}
+use Rattle.state.specs.Promises.{Answers}
 use Rattle.decide.specs.Decisions.{TellsLeft, Tested, Narrowed, decisionNumber}
-use Rattle.state.proofs.Answering.{finds, stays, accepts}
+use Rattle.meaning.proofs.Finding.{finds}
+use Rattle.state.proofs.Answering.{stays, accepts}
 use Rattle.state.proofs.Holding.{current}
 use Rattle.values.proofs.One.{alone-is}
 use Rattle.blocks.proofs.Reading.{block-at, block-length}

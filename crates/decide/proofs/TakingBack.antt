@@ -14,7 +14,8 @@ use Rattle.meaning.proofs.Proper.{leaves-proper}
 use Rattle.state.specs.declared.State.{State}
 use Rattle.blocks.specs.Blocks.{zeroedFrom}
 use Rattle.state.specs.Promises.{Answers}
-use Rattle.state.proofs.Answering.{finds, stays, accepts}
+use Rattle.meaning.proofs.Finding.{finds}
+use Rattle.state.proofs.Answering.{stays, accepts}
 use Rattle.decide.proofs.Blocks.{lists-back}
 
 pub back-refused : (s : State) (k : ℕ) → s .depth < k → Answers s (takeBack k) (number tooDeep) s

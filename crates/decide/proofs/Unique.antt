@@ -3,11 +3,13 @@ use mathlib.Core.Path.{_≡_, refl, sym, ap, _∙_}
 use Prim.Native.Nat.{ℕ}
 use Rattle.meaning.specs.Calls.{Call, takeBack}
 use Rattle.state.specs.declared.State.{State}
-use Rattle.state.specs.declared.Answer.{Answer}
+use Rattle.refusals.specs.declared.Answer.{Answer}
 use Rattle.state.specs.Holds.{Reached}
-use Rattle.state.specs.Promises.{Answers, numberOf}
+use Rattle.refusals.specs.Numbers.{numberOf}
+use Rattle.state.specs.Promises.{Answers}
 use Rattle.state.proofs.Holding.{current}
-use Rattle.state.proofs.Unique.{same-refusal, not-accepted, call-unique, answers-unique}
+use Rattle.refusals.proofs.Unique.{same-refusal, not-accepted}
+use Rattle.state.proofs.Unique.{call-unique, answers-unique}
 use Rattle.decide.specs.declared.DecisionAnswer.{DecisionAnswer}
 use Rattle.decide.specs.declared.DecisionAnswer.the-variants as DecisionAnswers
 use Rattle.decide.specs.declared.Left.{Left}

@@ -13,7 +13,7 @@ use Rattle.meaning.specs.Calls.{Call, leftRefusal, decisionTests, decide}
 use Rattle.meaning.specs.Histories.{Leaves}
 use Rattle.state.specs.declared.State.{State}
 use Rattle.state.specs.Holds.{Holds}
-use Rattle.state.specs.Promises.{tableOf}
+use Rattle.refusals.specs.Numbers.{tableOf}
 use Rattle.decide.specs.declared.DecisionAnswer.{DecisionAnswer}
 use Rattle.decide.specs.declared.DecisionAnswer.the-variants as DecisionAnswers
 use Rattle.decide.specs.declared.Left.{Left}

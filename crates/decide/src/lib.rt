@@ -3,7 +3,8 @@ ghost use Prim.Native.Nat.{_<_, _≤_};
 ghost use Rattle.meaning.specs.Limits.{decisionLimit};
 ghost use Rattle.meaning.specs.Calls.{pin, ban, takeBack};
 ghost use Rattle.state.specs.Holds.{Reached};
-ghost use Rattle.state.specs.Promises.{Answers, numberOf};
+ghost use Rattle.refusals.specs.Numbers.{numberOf};
+ghost use Rattle.state.specs.Promises.{Answers};
 ghost use Rattle.decide.specs.Decisions.{Tested, Narrowed, TellsLeft, decisionNumber};
 use blocks::clear_after;
 use blocks::list_of;
@@ -11,8 +12,8 @@ use blocks::lists_after;
 use blocks::put_lists;
 use filters::settled;
 use state::AfterCall;
-use state::Answer;
-use state::Refusal;
+use refusals::Answer;
+use refusals::Refusal;
 use state::State;
 
 // What a pin or a ban answers.

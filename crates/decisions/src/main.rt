@@ -2,7 +2,7 @@
 // ban: y accepted, n refused because 32 decisions are outstanding, ? for any other refusal.
 ghost use Rattle.state.specs.Holds.{Reached};
 use decide::DecisionAnswer;
-use state::Refusal;
+use refusals::Refusal;
 use state::State;
 
 fn letter(answer: DecisionAnswer) -> u8 {

@@ -3,8 +3,8 @@ use Rattle.state.proofs.State as State
 use Rattle.state.proofs.State.Laws as State′
 use Rattle.decide.proofs.DecisionAnswer as DecisionAnswer
 use Rattle.decide.proofs.DecisionAnswer.Laws as DecisionAnswer′
-use Rattle.state.proofs.Answer as Answer
-use Rattle.state.proofs.Answer.Laws as Answer′
+use Rattle.refusals.proofs.Answer as Answer
+use Rattle.refusals.proofs.Answer.Laws as Answer′
 use Rattle.decide.proofs.AfterDecision as AfterDecision
 use Rattle.state.proofs.AfterCall as AfterCall
 use Rattle.desk.proofs.Lent.{Parties}

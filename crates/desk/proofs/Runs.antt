@@ -7,11 +7,12 @@ use Rattle.meaning.specs.Lists.{Largest}
 use Rattle.meaning.specs.Calls.{Call, pin, ban, takeBack}
 use Rattle.meaning.specs.Histories.{Leaves}
 use Rattle.state.specs.declared.State.{State}
-use Rattle.state.specs.declared.Answer.{Answer}
+use Rattle.refusals.specs.declared.Answer.{Answer}
 use Rattle.decide.specs.declared.DecisionAnswer.{DecisionAnswer}
 use Rattle.blocks.specs.Blocks.{block}
 use Rattle.state.specs.Holds.{Holds, Reached, upTo}
-use Rattle.state.specs.Promises.{Answers, numberOf}
+use Rattle.refusals.specs.Numbers.{numberOf}
+use Rattle.state.specs.Promises.{Answers}
 use Rattle.decide.specs.Decisions.{decisionNumber}
 use Rattle.state.specs.Runs.{Run, start, step}
 use Rattle.state.proofs.Runs.{run-reached, run-stands, run-largest, run-depths}

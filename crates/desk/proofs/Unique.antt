@@ -4,10 +4,11 @@ use mathlib.Core.Path.{_≡_}
 use Prim.Native.Nat.{ℕ}
 use Rattle.meaning.specs.Calls.{pin, ban, takeBack}
 use Rattle.state.specs.declared.State.{State}
-use Rattle.state.specs.declared.Answer.{Answer}
+use Rattle.refusals.specs.declared.Answer.{Answer}
 use Rattle.decide.specs.declared.DecisionAnswer.{DecisionAnswer}
 use Rattle.state.specs.Holds.{Reached}
-use Rattle.state.specs.Promises.{Answers, numberOf}
+use Rattle.refusals.specs.Numbers.{numberOf}
+use Rattle.state.specs.Promises.{Answers}
 use Rattle.decide.specs.Decisions.{decisionNumber}
 use Rattle.state.proofs.Unique.{answers-unique}
 use Rattle.decide.proofs.Unique.{decisions-unique}

@@ -4,10 +4,11 @@ use Prim.Native.Nat.{ℕ}
 use Rattle.meaning.specs.Standing.{nothing}
 use Rattle.meaning.specs.Calls.{Call, pin, ban, takeBack}
 use Rattle.state.specs.declared.State.{State}
-use Rattle.state.specs.declared.Answer.{Answer}
+use Rattle.refusals.specs.declared.Answer.{Answer}
 use Rattle.decide.specs.declared.DecisionAnswer.{DecisionAnswer}
 use Rattle.state.specs.Holds.{Holds}
-use Rattle.state.specs.Promises.{Answers, numberOf}
+use Rattle.refusals.specs.Numbers.{numberOf}
+use Rattle.state.specs.Promises.{Answers}
 use Rattle.decide.specs.Decisions.{decisionNumber}
 
 -- the calls, the latest first, and the state that they leave; of a call on the state lent, s is the state at entry and t at exit

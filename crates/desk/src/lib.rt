@@ -1,10 +1,11 @@
 // Pins, bans and take-backs on a rota state that stays with the desk program, which lends it for each call.
 ghost use Rattle.meaning.specs.Calls.{pin, ban, takeBack};
 ghost use Rattle.state.specs.Holds.{Reached};
-ghost use Rattle.state.specs.Promises.{Answers, numberOf};
+ghost use Rattle.refusals.specs.Numbers.{numberOf};
+ghost use Rattle.state.specs.Promises.{Answers};
 ghost use Rattle.decide.specs.Decisions.{decisionNumber};
 use decide::DecisionAnswer;
-use state::Answer;
+use refusals::Answer;
 use state::State;
 
 // Keeps the value v of the variable x alone.

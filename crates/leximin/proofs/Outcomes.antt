@@ -14,11 +14,11 @@ use Rattle.meaning.specs.Standing.{Standing}
 use Rattle.meaning.specs.Solutions.{Answer}
 use Rattle.meaning.specs.Calls.{solveRefusal}
 use Rattle.state.specs.declared.State.{State}
-use Rattle.state.specs.declared.Refusal.the-variants.{NoObjective, ShortBuffer}
+use Rattle.refusals.specs.declared.Refusal.the-variants.{NoObjective, ShortBuffer}
 use Rattle.leximin.specs.declared.Solved.the-variants.{Found, Inconsistent, Refused}
 use Rattle.state.specs.Holds.{Holds}
 use Rattle.leximin.specs.Solving.{Solves, SolvedBy}
-use Rattle.state.proofs.Answering.{finds}
+use Rattle.meaning.proofs.Finding.{finds}
 
 abbrev tests : Standing → ℕ → List (Bool × Rattle.meaning.specs.Refusals.Refusal)
 tests w n = (eqb (length (w .objectives)) 0, noObjective) ∷ (ltb n (length (w .declared)), shortBuffer) ∷ []

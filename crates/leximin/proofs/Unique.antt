@@ -10,7 +10,7 @@ use Rattle.leximin.specs.declared.Solved.{Solved}
 use Rattle.leximin.specs.declared.Solved.the-variants.{Found, Inconsistent, Refused}
 use Rattle.state.specs.Holds.{Reached}
 use Rattle.leximin.specs.Solving.{Solves, Outcome, solvedNumber}
-use Rattle.state.proofs.Unique.{same-refusal, not-accepted}
+use Rattle.refusals.proofs.Unique.{same-refusal, not-accepted}
 
 outcome-unique : (w : Standing) (before : List ℕ) (r q : Solved) (after later : List ℕ) → solvedNumber r ≡ solvedNumber q
     → Outcome w before r after → Outcome w before q later → (r ≡ q) × (after ≡ later)

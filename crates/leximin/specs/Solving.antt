@@ -16,7 +16,7 @@ use Rattle.state.specs.declared.State.{State}
 use Rattle.leximin.specs.declared.Solved.{Solved}
 use Rattle.leximin.specs.declared.Solved.the-variants as Solveds
 use Rattle.state.specs.Holds.{Holds}
-use Rattle.state.specs.Promises.{tableOf}
+use Rattle.refusals.specs.Numbers.{tableOf}
 use Rattle.search.specs.Search.{Meets, FirstOf}
 
 -- the number that solving says, 0 where it is not refused

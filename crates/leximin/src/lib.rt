@@ -14,7 +14,7 @@ use blocks::lists_after;
 use profile::sorted_up;
 use search::Rota;
 use search::first_reaching;
-use state::Refusal;
+use refusals::Refusal;
 use state::State;
 
 // What solving answers.

@@ -1,5 +1,6 @@
 pub mod Tests
 pub mod Searching
+pub mod Finding
 pub mod Digits
 pub mod Sizes
 pub mod Sets

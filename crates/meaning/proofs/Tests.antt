@@ -1,6 +1,6 @@
 -- Boolean tests, taken apart and put together. Assumes nothing.
-use mathlib.Core.Path.{_≡_, refl, subst}
-use mathlib.Core.Bool.{Bool, true, false, _&&_, _||_, true≢false}
+use mathlib.Core.Path.{_≡_, refl, ap, _∙_, subst}
+use mathlib.Core.Bool.{Bool, true, false, _&&_, _||_, or-true, true≢false}
 use Prim.Native.Nat.{ℕ}
 use lib.Dec.{T, eqb, eqb-refl}
 
@@ -31,3 +31,13 @@ eq-eqb {x} e = subst (λ (z : ℕ). T (eqb x z)) e (eqb-refl x)
 pub or-no : (a b : Bool) → (a || b) ≡ false → (a ≡ false) × (b ≡ false)
 or-no true b e = absurd (true≢false e)
 or-no false b e = (refl, e)
+
+-- one of two holds, or neither
+pub far-first : {a : Bool} (b : Bool) → a ≡ true → (a || b) ≡ true
+far-first b e = ap (λ (c : Bool). c || b) e
+
+pub far-then : (a : Bool) {b : Bool} → b ≡ true → (a || b) ≡ true
+far-then a e = ap (λ (c : Bool). a || c) e ∙ or-true a
+
+pub near-both : {a b : Bool} → a ≡ false → b ≡ false → (a || b) ≡ false
+near-both e f = rw (e, f)

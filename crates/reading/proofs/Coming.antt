@@ -1,7 +1,7 @@
 -- Steps of the reader's code, one after the other: a fault ends the reading, and otherwise it goes on at the place after. Assumes nothing.
 use mathlib.Core.Path.{_≡_, ap, _∙_, subst, subst⁻¹}
 use Prim.Native.Nat.{ℕ}
-use Rattle.state.specs.declared.Refusal.{Refusal}
+use Rattle.refusals.specs.declared.Refusal.{Refusal}
 use Rattle.reading.specs.declared.Step.{Step}
 use Rattle.reading.specs.declared.Step.the-variants.{Fault, Read}
 use Rattle.reading.specs.Reading.{Reading, fault, got, next}

@@ -18,10 +18,10 @@ use Rattle.text.specs.Tokens.{numberAt, nameAt}
 use Rattle.reading.specs.Reading.{Reading, fault, got, Tests, judged, numberJudged, nameJudged, number, name, ended, range}
 use Rattle.reading.specs.declared.Step.the-variants.{Fault, Read}
 use Rattle.reading.specs.Steps.{numberOf, ComesTo}
-use Rattle.state.specs.declared.Refusal as Refusals
-use Rattle.state.specs.declared.Refusal.the-variants as Wrong
-use Rattle.state.specs.Promises.{tableOf}
-use Rattle.state.proofs.Answering.{Finds, finds}
+use Rattle.refusals.specs.declared.Refusal as Refusals
+use Rattle.refusals.specs.declared.Refusal.the-variants as Wrong
+use Rattle.refusals.specs.Numbers.{tableOf}
+use Rattle.meaning.proofs.Finding.{Finds, finds}
 
 pub judged-refused : {A : Type 0} (ts : List (Bool × Refusal)) (at : ℕ) (reading : Reading A) (r : Refusal) → Finds ts (Table.number r) → judged ts at reading ≡ fault (Table.number r) at
 judged-refused {A} ts at reading r f =

@@ -2,7 +2,7 @@
 use mathlib.Core.Path.{_≡_, refl, sym, ap, ap₂, _∙_}
 use mathlib.Core.Bool.{true≢false}
 use Prim.Native.Nat.{ℕ}
-use Rattle.state.proofs.Unique.{same-refusal}
+use Rattle.refusals.proofs.Unique.{same-refusal}
 use Rattle.reading.specs.declared.Step.{Step}
 use Rattle.reading.specs.declared.Step.the-variants.{Fault, Read}
 use Rattle.reading.specs.Reading.{Reading, fault, got}

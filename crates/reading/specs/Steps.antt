@@ -2,8 +2,8 @@
 use mathlib.Core.Path.{_≡_}
 use Prim.Native.Nat.{ℕ}
 use Rattle.meaning.specs.Refusals as Numbers
-use Rattle.state.specs.declared.Refusal.{Refusal}
-use Rattle.state.specs.Promises.{tableOf}
+use Rattle.refusals.specs.declared.Refusal.{Refusal}
+use Rattle.refusals.specs.Numbers.{tableOf}
 use Rattle.reading.specs.declared.Step.{Step}
 use Rattle.reading.specs.declared.Step.the-variants.{Fault, Read}
 use Rattle.reading.specs.Reading.{Reading, fault, got}

@@ -1,10 +1,10 @@
 // Reading a text left to right: the next number or name, with the tests that it has to pass.
 ghost use mathlib.Core.List.{[], _∷_};
 ghost use lib.Dec.{leb};
-ghost use Rattle.state.specs.Promises.{tableOf};
+ghost use Rattle.refusals.specs.Numbers.{tableOf};
 ghost use Rattle.reading.specs.Reading.{number, anyNumber, range, name, ended};
 ghost use Rattle.reading.specs.Steps.{ComesTo};
-use state::Refusal;
+use refusals::Refusal;
 use text::NameRead;
 use text::NumberRead;
 use text::read_name;

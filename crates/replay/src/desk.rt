@@ -4,7 +4,7 @@ ghost use lib.ListN.{length};
 ghost use Rattle.state.specs.Holds.{Reached};
 use crate::saying;
 use crate::words::is_over;
-use state::Answer;
+use refusals::Answer;
 use state::State;
 
 pub(crate) struct Desk {

@@ -1,7 +1,7 @@
 // The lines that the program writes.
 use decide::DecisionAnswer;
-use state::Answer;
-use state::Refusal;
+use refusals::Answer;
+use refusals::Refusal;
 
 pub(crate) fn say(text: &[u8]) {
     io::write_all(libc::STDOUT_FILENO, text);
@@ -24,7 +24,7 @@ pub(crate) fn bad_script(at: usize) {
 
 pub(crate) fn refused(refusal: Refusal) {
     say(b"refused ");
-    say_number(numbers::number_of(refusal) as u64);
+    say_number(refusals::number_of(refusal) as u64);
     say(b"\n");
 }
 

@@ -13,7 +13,7 @@ use Rattle.meaning.specs.Order.{outside}
 use Rattle.meaning.specs.Standing.{Standing, nothing}
 use Rattle.meaning.specs.Calls.{Call, addVariable, nameObjectives, some, tests, refusal, accepted, after}
 use Rattle.meaning.specs.Histories.{Leaves, none, call}
-use Rattle.state.proofs.Answering.{Finds, finds}
+use Rattle.meaning.proofs.Finding.{Finds, finds}
 use Rattle.wcsp.specs.Files.{File, Table, tableCall, variableCalls, tableCalls, calls}
 use Rattle.reply.specs.Replies.{upwards, objectivesOf}
 

@@ -7,9 +7,9 @@ use native.Mathlib.Omega.{arith}
 use lib.ListN.{length}
 use Rattle.meaning.specs.Limits.{variableLimit}
 use Rattle.meaning.proofs.Proper.{number-above}
-use Rattle.state.specs.declared.Refusal.{Refusal}
+use Rattle.refusals.specs.declared.Refusal.{Refusal}
 use Rattle.state.specs.Holds.{Reached}
-use Rattle.state.specs.Promises.{tableOf}
+use Rattle.refusals.specs.Numbers.{tableOf}
 use Rattle.state.proofs.Runs.{run-reached}
 use Rattle.wcsp.specs.declared.Loaded.{Loaded}
 use Rattle.wcsp.specs.declared.Outcome.the-variants.{Accepted, Refused}

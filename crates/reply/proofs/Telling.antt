@@ -22,11 +22,12 @@ use Rattle.meaning.proofs.Sorting.{sorted-length}
 use Rattle.meaning.proofs.Answers.{answer-unique}
 use Rattle.profile.specs.declared.Sorted.{Sorted}
 use Rattle.profile.specs.Upwards.{SortedUp, kept, padded}
-use Rattle.state.specs.declared.Refusal.{Refusal}
+use Rattle.refusals.specs.declared.Refusal.{Refusal}
 use Rattle.state.specs.declared.State.{State}
 use Rattle.leximin.specs.declared.Solved.{Solved}
 use Rattle.leximin.specs.declared.Solved.the-variants as Solveds
-use Rattle.state.specs.Promises.{Answers, tableOf}
+use Rattle.refusals.specs.Numbers.{tableOf}
+use Rattle.state.specs.Promises.{Answers}
 use Rattle.state.specs.Runs.{Run, step}
 use Rattle.leximin.specs.Solving.{Solves, SolvedAs}
 use Rattle.state.proofs.Runs.{run-stands}

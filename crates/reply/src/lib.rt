@@ -12,7 +12,7 @@ use leximin::Solved;
 use lines::LINES;
 use meaning::OBJECTIVES;
 use meaning::VARIABLES;
-use numbers::number_of;
+use refusals::number_of;
 use state::State;
 use wcsp::Outcome;
 

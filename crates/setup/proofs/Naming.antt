@@ -14,13 +14,15 @@ use Rattle.meaning.specs.Standing.{Standing}
 use Rattle.meaning.specs.Calls.{nameObjectives, some, unknown, tests, accepted}
 use Rattle.meaning.proofs.Steps.{objectives-largest}
 use Rattle.state.specs.declared.State.{State}
-use Rattle.state.specs.declared.Refusal.the-variants.{NoSuchVariable, WrongLength}
-use Rattle.state.specs.declared.Answer.{Answer}
-use Rattle.state.specs.declared.Answer.the-variants.{Refused}
+use Rattle.refusals.specs.declared.Refusal.the-variants.{NoSuchVariable, WrongLength}
+use Rattle.refusals.specs.declared.Answer.{Answer}
+use Rattle.refusals.specs.declared.Answer.the-variants.{Refused}
 use Rattle.filters.specs.Layout.{padded}
 use Rattle.state.specs.Holds.{Holds}
-use Rattle.state.specs.Promises.{Answers, numberOf}
-use Rattle.state.proofs.Answering.{finds, refuses, accepts}
+use Rattle.refusals.specs.Numbers.{numberOf}
+use Rattle.state.specs.Promises.{Answers}
+use Rattle.meaning.proofs.Finding.{finds}
+use Rattle.state.proofs.Answering.{refuses, accepts}
 
 abbrev pub withNames : State → List ℕ → ℕ → State
 withNames s named count = record {

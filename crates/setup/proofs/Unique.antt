@@ -5,9 +5,10 @@ use Prim.Native.Nat.{ℕ}
 use Rattle.meaning.specs.Standing.{nothing}
 use Rattle.meaning.specs.Calls.{addVariable, nameObjectives}
 use Rattle.state.specs.declared.State.{State}
-use Rattle.state.specs.declared.Answer.{Answer}
+use Rattle.refusals.specs.declared.Answer.{Answer}
 use Rattle.state.specs.Holds.{Holds, Reached}
-use Rattle.state.specs.Promises.{Answers, numberOf}
+use Rattle.refusals.specs.Numbers.{numberOf}
+use Rattle.state.specs.Promises.{Answers}
 use Rattle.state.proofs.Unique.{holds-unique, answers-unique}
 
 pub new-unique : {s t : State} → Holds s nothing → Holds t nothing → s ≡ t

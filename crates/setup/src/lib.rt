@@ -7,11 +7,12 @@ ghost use Rattle.meaning.specs.Standing.{nothing};
 ghost use Rattle.meaning.specs.Calls.{addVariable, nameObjectives};
 ghost use Rattle.filters.specs.Layout.{padded};
 ghost use Rattle.state.specs.Holds.{Holds, Reached};
-ghost use Rattle.state.specs.Promises.{Answers, numberOf};
+ghost use Rattle.refusals.specs.Numbers.{numberOf};
+ghost use Rattle.state.specs.Promises.{Answers};
 use arguments::any_unknown;
 use state::AfterCall;
-use state::Answer;
-use state::Refusal;
+use refusals::Answer;
+use refusals::Refusal;
 use state::State;
 
 // The state in which nothing stands.

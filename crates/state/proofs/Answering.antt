@@ -1,14 +1,12 @@
 -- How an answer meets its promise: a refusal leaves the state as it stood, an accepted call leaves what is accepted.
 -- Assumes nothing.
 use mathlib.Core.Path.{_≡_, sym, ap, _∙_}
-use mathlib.Core.Logic.{_⊎_, inl, inr}
-use mathlib.Core.Bool.{Bool, true, false, cond}
-use mathlib.Core.List.{List, [], _∷_}
+use mathlib.Core.Bool.{Bool, cond}
+use mathlib.Core.List.{List}
 use Prim.Native.Nat.{ℕ}
 use native.Mathlib.Omega.{arith}
 use borrow.Author.Tests.{eq-eqb, ne-eqb}
-use Rattle.meaning.specs.Refusals as Table
-use Rattle.meaning.specs.Refusals.{number, first}
+use Rattle.meaning.specs.Refusals.{number}
 use Rattle.meaning.specs.Standing.{Standing}
 use Rattle.meaning.specs.Lists.{Largest}
 use Rattle.meaning.specs.Calls.{Call, refusal, accepted, after}
@@ -16,24 +14,12 @@ use Rattle.meaning.specs.Histories.{Leaves}
 use Rattle.meaning.specs.Proper.{Proper}
 use Rattle.meaning.proofs.Proper.{number-above, leaves-proper}
 use Rattle.state.specs.declared.State.{State}
-use Rattle.state.specs.declared.Refusal.{Refusal}
-use Rattle.state.specs.declared.Answer.{Answer}
-use Rattle.state.specs.declared.Answer.the-variants.{Refused}
+use Rattle.refusals.specs.declared.Refusal.{Refusal}
+use Rattle.refusals.specs.declared.Answer.{Answer}
+use Rattle.refusals.specs.declared.Answer.the-variants.{Refused}
 use Rattle.state.specs.Holds.{Holds}
-use Rattle.state.specs.Promises.{Answers, numberOf, tableOf}
-
--- ---- the first test that holds
-
--- n is the number of the first test that holds: for each test on the way there, why it does or does not hold
-abbrev pub Finds : List (Bool × Table.Refusal) → ℕ → Type 0
-Finds [] n = n ≡ 0
-Finds (t ∷ ts) n = ((t .0 ≡ true) × (n ≡ number (t .1))) ⊎ ((t .0 ≡ false) × Finds ts n)
-
-pub finds : (ts : List (Bool × Table.Refusal)) (n : ℕ) → Finds ts n → first ts ≡ n
-unfolding first
-finds [] n e = sym e
-finds (t ∷ ts) n (inl (e, f)) = ap (λ (b : Bool). cond b (number (t .1)) (first ts)) e ∙ sym f
-finds (t ∷ ts) n (inr (e, f)) = ap (λ (b : Bool). cond b (number (t .1)) (first ts)) e ∙ finds ts n f
+use Rattle.refusals.specs.Numbers.{numberOf, tableOf}
+use Rattle.state.specs.Promises.{Answers}
 
 -- ---- what stands after the call
 

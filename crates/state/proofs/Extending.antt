@@ -15,15 +15,16 @@ use Rattle.meaning.specs.Histories.{call}
 use Rattle.meaning.specs.Proper.{Proper}
 use Rattle.meaning.proofs.Proper.{leaves-proper, accepted-proper, number-above, rows-count, held-more}
 use Rattle.state.specs.declared.State.{State}
-use Rattle.state.specs.declared.Refusal.{Refusal}
-use Rattle.state.specs.declared.Answer.{Answer}
-use Rattle.state.specs.declared.Answer.the-variants.{Accepted, Refused}
+use Rattle.refusals.specs.declared.Refusal.{Refusal}
+use Rattle.refusals.specs.declared.Answer.{Answer}
+use Rattle.refusals.specs.declared.Answer.the-variants.{Accepted, Refused}
 use Rattle.state.specs.declared.Sort.{Sort}
 use Rattle.state.specs.declared.Sort.the-variants.{Allow, Forbid}
 use Rattle.filters.specs.Layout.{shift, sortOf, lastOf, roomOf, padded}
 use Rattle.state.specs.Writing.{Put, PutHead}
 use Rattle.state.specs.Holds.{Holds, Reached}
-use Rattle.state.specs.Promises.{Answers, sortSaid, numberOf, tableOf}
+use Rattle.refusals.specs.Numbers.{numberOf, tableOf}
+use Rattle.state.specs.Promises.{Answers, sortSaid}
 use Rattle.state.specs.Additions.{sortNumber, TableFits, LinearFits, LaidOut, Extends, Followable, Followed, Counted}
 use Rattle.state.proofs.Answering.{after-accepted, stays, accepts}
 use Rattle.state.proofs.Holding.{current}

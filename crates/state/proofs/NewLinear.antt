@@ -6,11 +6,12 @@ use lib.IntN.{ℤ}
 use Rattle.meaning.specs.Rules.{linear}
 use Rattle.meaning.specs.Calls.{addLinear}
 use Rattle.state.specs.declared.State.{State}
-use Rattle.state.specs.declared.Refusal.{Refusal}
-use Rattle.state.specs.declared.Answer.{Answer}
-use Rattle.state.specs.declared.Answer.the-variants.{Accepted, Refused}
+use Rattle.refusals.specs.declared.Refusal.{Refusal}
+use Rattle.refusals.specs.declared.Answer.{Answer}
+use Rattle.refusals.specs.declared.Answer.the-variants.{Accepted, Refused}
 use Rattle.state.specs.Holds.{Reached}
-use Rattle.state.specs.Promises.{Answers, numberOf}
+use Rattle.refusals.specs.Numbers.{numberOf}
+use Rattle.state.specs.Promises.{Answers}
 use Rattle.state.specs.Additions.{LinearTested, Extends, Followable, Followed}
 use Rattle.state.proofs.Extending as Extending
 

@@ -1,25 +1,22 @@
 -- Demand 1: two results that a public contract allows are equal. Assumes nothing.
-use mathlib.Core.Path.{_≡_, refl, sym, ap, _∙_}
+use mathlib.Core.Path.{_≡_, sym, ap, _∙_}
 use mathlib.Core.Logic.{inl, inr, by-cases}
-use mathlib.Core.List.{List, [], _∷_}
-use Prim.Native.Nat.{ℕ, _+_, _-_, _*_, _/_, _%_, _<_}
+use mathlib.Core.List.{List}
+use Prim.Native.Nat.{ℕ, _+_, _*_, _/_, _%_, _<_}
 use native.Mathlib.Decide.{decLt, decLe}
 use native.Mathlib.Omega.{arith}
 use lib.ListN.{length, getD}
 use lib.Seq.{ext-getD}
 use Rattle.meaning.specs.Limits.{variableLimit}
-use Rattle.meaning.specs.Refusals.{number}
 use Rattle.meaning.specs.Standing.{Standing}
 use Rattle.meaning.specs.Calls.{Call}
 use Rattle.meaning.proofs.Largest.{largest-unique}
-use Rattle.meaning.proofs.Proper.{number-above}
 use Rattle.state.specs.declared.State.{State}
-use Rattle.state.specs.declared.Refusal.{Refusal}
-use Rattle.state.specs.declared.Refusal.the-variants.{NoSuchVariable, VariableTwice, WrongLength, OutOfRange, TupleTwice, Full, Malformed, NotLeft, TooManyDecisions, TooDeep, ShortBuffer, NoObjective, Decided}
-use Rattle.state.specs.declared.Answer.{Answer}
-use Rattle.state.specs.declared.Answer.the-variants.{Accepted, Refused}
+use Rattle.refusals.specs.declared.Answer.{Answer}
 use Rattle.state.specs.Holds.{Holds, HoldsLists, Reached}
-use Rattle.state.specs.Promises.{Answers, numberOf, tableOf}
+use Rattle.refusals.proofs.Unique.{answer-unique}
+use Rattle.refusals.specs.Numbers.{numberOf}
+use Rattle.state.specs.Promises.{Answers}
 use Rattle.state.proofs.Holding.{current}
 use Rattle.blocks.proofs.Reading.{block-at}
 
@@ -54,44 +51,6 @@ holds-unique {s} {t} a b i = record {
   depth = (a .depth ∙ sym (b .depth)) i;
   lists = lists-unique (a .lists) (b .lists) i;
 }
-
--- ---- answers, by their numbers
-
--- the refusals in the order of their numbers, from 1
-refusals : List Refusal
-refusals =
-    NoSuchVariable ∷ VariableTwice ∷ WrongLength ∷ OutOfRange ∷ TupleTwice ∷ Full ∷ Malformed ∷ NotLeft ∷ TooManyDecisions ∷ TooDeep ∷ ShortBuffer ∷ NoObjective ∷ Decided ∷ []
-
-named : ℕ → Refusal
-named n = getD refusals (n - 1) NoSuchVariable
-
-named-number : (r : Refusal) → named (number (tableOf r)) ≡ r
-unfolding named refusals
-named-number NoSuchVariable = refl
-named-number VariableTwice = refl
-named-number WrongLength = refl
-named-number OutOfRange = refl
-named-number TupleTwice = refl
-named-number Full = refl
-named-number Malformed = refl
-named-number NotLeft = refl
-named-number TooManyDecisions = refl
-named-number TooDeep = refl
-named-number ShortBuffer = refl
-named-number NoObjective = refl
-named-number Decided = refl
-
-pub same-refusal : (r q : Refusal) → number (tableOf r) ≡ number (tableOf q) → r ≡ q
-same-refusal r q e = sym (named-number r) ∙ ap named e ∙ named-number q
-
-pub not-accepted : {A : Type 0} (r : Refusal) → number (tableOf r) ≡ 0 → A
-not-accepted r e = let p = number-above (tableOf r) in absurd (omega arith)
-
-pub answer-unique : (a b : Answer) → numberOf a ≡ numberOf b → a ≡ b
-answer-unique Accepted Accepted e = refl
-answer-unique Accepted (Refused q) e = not-accepted q (sym e)
-answer-unique (Refused r) Accepted e = not-accepted r e
-answer-unique (Refused r) (Refused q) e = ap Refused (same-refusal r q e)
 
 -- ---- calls
 

@@ -2,7 +2,6 @@
 use mathlib.Core.Path.{_≡_}
 use mathlib.Core.List.{List}
 use Prim.Native.Nat.{ℕ}
-use Rattle.meaning.specs.Refusals as Table
 use Rattle.meaning.specs.Standing.{Standing}
 use Rattle.meaning.specs.Lists.{Largest}
 use Rattle.meaning.specs.Calls as Calls
@@ -11,32 +10,7 @@ use Rattle.meaning.specs.Histories.{Leaves}
 use Rattle.state.specs.declared.State.{State}
 use Rattle.state.specs.declared.Sort.{Sort}
 use Rattle.state.specs.declared.Sort.the-variants.{Allow, Forbid}
-use Rattle.state.specs.declared.Refusal.{Refusal}
-use Rattle.state.specs.declared.Refusal.the-variants.{NoSuchVariable, VariableTwice, WrongLength, OutOfRange, TupleTwice, Full, Malformed, NotLeft, TooManyDecisions, TooDeep, ShortBuffer, NoObjective, Decided}
-use Rattle.state.specs.declared.Answer.{Answer}
-use Rattle.state.specs.declared.Answer.the-variants.{Accepted, Refused}
 use Rattle.state.specs.Holds.{Holds}
-
--- document 01's table
-abbrev pub tableOf : Refusal → Table.Refusal
-tableOf NoSuchVariable = Table.noSuchVariable
-tableOf VariableTwice = Table.variableTwice
-tableOf WrongLength = Table.wrongLength
-tableOf OutOfRange = Table.outOfRange
-tableOf TupleTwice = Table.tupleTwice
-tableOf Full = Table.full
-tableOf Malformed = Table.malformed
-tableOf NotLeft = Table.notLeft
-tableOf TooManyDecisions = Table.tooManyDecisions
-tableOf TooDeep = Table.tooDeep
-tableOf ShortBuffer = Table.shortBuffer
-tableOf NoObjective = Table.noObjective
-tableOf Decided = Table.decided
-
--- the number that an answer says, 0 where the call is accepted
-abbrev pub numberOf : Answer → ℕ
-numberOf Accepted = 0
-numberOf (Refused r) = Table.number (tableOf r)
 
 abbrev pub sortSaid : Sort → Calls.Sort
 sortSaid Allow = Calls.allow

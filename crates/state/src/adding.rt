@@ -1,33 +1,25 @@
 // Adding tables and linear rules.
 ghost use mathlib.Core.Path.{_≡_};
-ghost use mathlib.Core.Bool.{_||_};
-ghost use Prim.Native.Nat.{_+_, _≤_};
-ghost use lib.Dec.{leb, ltb};
-ghost use Rattle.meaning.specs.Limits.{ruleLimit, roomLimit};
 ghost use Rattle.meaning.specs.Rules.{linear};
 ghost use Rattle.meaning.specs.Calls.{addTable, addLinear, ruleOf};
 ghost use Rattle.state.specs.Holds.{Reached};
-ghost use Rattle.state.specs.Promises.{Answers, numberOf, sortSaid};
-ghost use Rattle.state.specs.Additions.{TableFits, TableTested, LinearFits, LinearTested, Extends, Followable, Followed, sortNumber};
+ghost use Rattle.refusals.specs.Numbers.{numberOf};
+ghost use Rattle.state.specs.Promises.{Answers, sortSaid};
+ghost use Rattle.state.specs.Additions.{TableFits, LinearFits, Extends, Followable, Followed, sortNumber};
 use crate::AfterCall;
-use crate::Answer;
-use crate::Refusal;
 use crate::Sort;
 use crate::State;
 use crate::writing::put_bytes;
 use crate::writing::put_head;
 use crate::writing::put_shifted;
 use crate::writing::shifted_bound;
-use arguments::any_beyond;
-use arguments::any_large;
-use arguments::any_twice;
-use arguments::any_unknown;
-use arguments::beyond_bound;
-use arguments::tuple_twice;
 use blocks::lists_after;
 use blocks::put_lists;
+use checks::linear_tested;
+use checks::table_tested;
 use filters::filter_rule;
 use filters::settled;
+use refusals::Answer;
 
 // One table more: its variables, and its tuples' values one after the other.
 pub fn add_table(s: State, sort: Sort, scope: &[u8], cells: &[u8]) -> AfterCall
@@ -45,54 +37,6 @@ pub fn add_table(s: State, sort: Sort, scope: &[u8], cells: &[u8]) -> AfterCall
         }
         Answer::Refused(_) => AfterCall { answer, state: s },
     }
-}
-
-// The tests of a table, in document 01's order.
-fn table_tested(
-    variables: usize,
-    depth: usize,
-    rules: usize,
-    used: usize,
-    scope: &[u8],
-    cells: &[u8],
-) -> Answer
-    requires { ⌜ used ≤ roomLimit ⌝ }
-    ensures { λ r. ⌜ TableTested variables depth rules used (now (scope .entry)) (now (cells .entry)) (numberOf r) ⌝ }
-{
-    let arity = scope.len();
-    if 0 < depth {
-        return Answer::Refused(Refusal::Decided);
-    }
-    if arity == 0 || 8 < arity || cells.len() % arity != 0 {
-        return Answer::Refused(Refusal::WrongLength);
-    }
-    if any_unknown(scope, variables) {
-        return Answer::Refused(Refusal::NoSuchVariable);
-    }
-    if any_twice(scope) {
-        return Answer::Refused(Refusal::VariableTwice);
-    }
-    if any_large(cells) {
-        return Answer::Refused(Refusal::OutOfRange);
-    }
-    if tuple_twice(cells, arity) {
-        return Answer::Refused(Refusal::TupleTwice);
-    }
-    if is_full(rules, used, arity, cells.len()) {
-        return Answer::Refused(Refusal::Full);
-    }
-    Answer::Accepted
-}
-
-// Whether no rule more is held, or not with so many numbers more.
-fn is_full(rules: usize, used: usize, some: usize, more: usize) -> bool
-    requires { ⌜ (used ≤ roomLimit) × (some ≤ roomLimit) ⌝ }
-    ensures { λ r. ⌜ r ≡ (leb ruleLimit rules || ltb roomLimit (used + (some + more))) ⌝ }
-{
-    if 48 <= rules {
-        return true;
-    }
-    4096 < used + some || 4096 - used - some < more
 }
 
 // The table is written behind the rules that are there; the lists stay as they are.
@@ -153,41 +97,6 @@ pub fn add_linear(s: State, scope: &[u8], coefficients: &[i32], bound: i32) -> A
         }
         Answer::Refused(_) => AfterCall { answer, state: s },
     }
-}
-
-// The tests of a linear rule, in document 01's order.
-fn linear_tested(
-    variables: usize,
-    depth: usize,
-    rules: usize,
-    used: usize,
-    scope: &[u8],
-    coefficients: &[i32],
-    bound: i32,
-) -> Answer
-    requires { ⌜ used ≤ roomLimit ⌝ }
-    ensures { λ r. ⌜ LinearTested variables depth rules used (now (scope .entry)) (now (coefficients .entry)) bound (numberOf r) ⌝ }
-{
-    let arity = scope.len();
-    if 0 < depth {
-        return Answer::Refused(Refusal::Decided);
-    }
-    if arity == 0 || 32 < arity || coefficients.len() != arity {
-        return Answer::Refused(Refusal::WrongLength);
-    }
-    if any_unknown(scope, variables) {
-        return Answer::Refused(Refusal::NoSuchVariable);
-    }
-    if any_twice(scope) {
-        return Answer::Refused(Refusal::VariableTwice);
-    }
-    if any_beyond(coefficients) || beyond_bound(bound) {
-        return Answer::Refused(Refusal::OutOfRange);
-    }
-    if is_full(rules, used, arity, arity + 1) {
-        return Answer::Refused(Refusal::Full);
-    }
-    Answer::Accepted
 }
 
 // The linear rule is written behind the rules that are there; the lists stay as they are.

@@ -5,6 +5,8 @@ mod writing;
 pub use adding::add_linear;
 pub use adding::add_table;
 
+use refusals::Answer;
+
 // What stands, laid out in flat arrays: counts, and zeros past them.
 pub struct State {
     pub variables: usize,
@@ -20,28 +22,6 @@ pub struct State {
     pub depth: usize,
     // 33 blocks of 32 sets: the values left after 0, 1, .. decisions
     pub lists: [u64; 1056],
-}
-
-// Document 01's table of refusals.
-pub enum Refusal {
-    NoSuchVariable,
-    VariableTwice,
-    WrongLength,
-    OutOfRange,
-    TupleTwice,
-    Full,
-    Malformed,
-    NotLeft,
-    TooManyDecisions,
-    TooDeep,
-    ShortBuffer,
-    NoObjective,
-    Decided,
-}
-
-pub enum Answer {
-    Accepted,
-    Refused(Refusal),
 }
 
 pub enum Sort {

@@ -13,7 +13,7 @@ use Rattle.tuples.specs.Keys.{keyLimit, keyFrom}
 use Rattle.tuples.specs.Rows.{tuplesIn}
 use Rattle.tuples.proofs.Rows.{part-is, tuple-long}
 use Rattle.tuples.proofs.Marks.{unmarked, marked-too}
-use Rattle.state.specs.declared.Refusal.{Refusal}
+use Rattle.refusals.specs.declared.Refusal.{Refusal}
 use Rattle.reading.specs.declared.Step.{Step}
 use Rattle.reading.specs.declared.Step.the-variants.{Fault, Read}
 use Rattle.wcsp.specs.Steps.{Behind, Keyed, KeyedOn}

@@ -13,7 +13,7 @@ use Rattle.meaning.specs.Limits.{roomLimit, arityLimit}
 use Rattle.meaning.specs.Refusals.{outOfRange, wrongLength}
 use Rattle.meaning.specs.Calls.{Sort}
 use Rattle.text.specs.Words.{tokenStart}
-use Rattle.state.specs.declared.Refusal.{Refusal}
+use Rattle.refusals.specs.declared.Refusal.{Refusal}
 use Rattle.state.specs.declared.Sort as Sorts
 use Rattle.state.specs.Promises.{sortSaid}
 use Rattle.reading.specs.declared.Step.{Step}

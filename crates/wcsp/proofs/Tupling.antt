@@ -11,8 +11,8 @@ use lib.Dec.{leb}
 use Rattle.meaning.specs.Refusals.{outOfRange, tupleTwice}
 use Rattle.meaning.specs.Calls.{some, same, rows}
 use Rattle.text.specs.Words.{tokenStart}
-use Rattle.state.specs.declared.Refusal.{Refusal}
-use Rattle.state.specs.declared.Refusal.the-variants as Wrong
+use Rattle.refusals.specs.declared.Refusal.{Refusal}
+use Rattle.refusals.specs.declared.Refusal.the-variants as Wrong
 use Rattle.reading.specs.declared.Step.{Step}
 use Rattle.reading.specs.declared.Step.the-variants.{Fault, Read}
 use Rattle.reading.specs.Reading.{fault, got, anyNumber, judged, number, several}

@@ -6,7 +6,8 @@ use Rattle.meaning.specs.Calls.{Call}
 use Rattle.state.specs.declared.State.{State}
 use Rattle.state.specs.Runs.{Run}
 use Rattle.state.proofs.Runs.{run-holds, run-stands}
-use Rattle.state.proofs.Unique.{holds-unique, same-refusal, not-accepted}
+use Rattle.refusals.proofs.Unique.{same-refusal, not-accepted}
+use Rattle.state.proofs.Unique.{holds-unique}
 use Rattle.wcsp.specs.declared.Outcome.{Outcome}
 use Rattle.wcsp.specs.declared.Outcome.the-variants.{Accepted, Refused}
 use Rattle.wcsp.specs.declared.Loaded.{Loaded}

@@ -6,11 +6,11 @@ use Prim.Native.Nat.{ℕ, _≤_}
 use native.Mathlib.Omega.{arith}
 use lib.ListN.{length, take}
 use lib.Seq.{length-take-le}
-use Rattle.state.specs.declared.Refusal.{Refusal}
+use Rattle.refusals.specs.declared.Refusal.{Refusal}
 use Rattle.meaning.specs.Standing.{nothing}
 use Rattle.state.specs.declared.State.{State}
 use Rattle.meaning.proofs.Proper.{number-above}
-use Rattle.state.specs.Promises.{tableOf}
+use Rattle.refusals.specs.Numbers.{tableOf}
 use Rattle.state.specs.Holds.{Holds}
 use Rattle.state.specs.Runs.{Run}
 use Rattle.reading.specs.declared.Step.{Step}

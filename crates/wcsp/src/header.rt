@@ -9,7 +9,7 @@ use reading::Step;
 use reading::any_number;
 use reading::number_within;
 use reading::skip_name;
-use state::Refusal;
+use refusals::Refusal;
 
 // A value is below it.
 const VALUES: usize = 64;

@@ -1,7 +1,7 @@
 // Reading wcsp files (document 01): left to right, to the first fault or to the state that the file's calls leave.
 ghost use Rattle.wcsp.specs.Promises.{Reads};
 use reading::Step;
-use state::Refusal;
+use refusals::Refusal;
 use state::State;
 
 mod header;

@@ -15,7 +15,7 @@ use meaning::VARIABLES;
 use reading::Step;
 use reading::any_number;
 use reading::number_below;
-use state::Refusal;
+use refusals::Refusal;
 use text::skip_blanks;
 use tuples::KEYS;
 use tuples::is_listed;

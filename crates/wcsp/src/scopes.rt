@@ -9,7 +9,7 @@ ghost use Rattle.wcsp.specs.Files.{variableTests};
 ghost use Rattle.wcsp.specs.Steps.{Under};
 use arguments::is_named;
 use reading::Step;
-use state::Refusal;
+use refusals::Refusal;
 use text::NumberRead;
 use text::read_number;
 

@@ -10,7 +10,7 @@ ghost use Rattle.wcsp.specs.Steps.{Under, Whole};
 use meaning::VARIABLES;
 use reading::Step;
 use reading::number_within;
-use state::Refusal;
+use refusals::Refusal;
 
 // The sizes read, in the first places.
 pub(crate) struct Sizes {

@@ -17,7 +17,7 @@ use meaning::VARIABLES;
 use reading::Step;
 use reading::any_number;
 use reading::number_within;
-use state::Refusal;
+use refusals::Refusal;
 use state::Sort;
 use state::State;
 use text::NumberRead;

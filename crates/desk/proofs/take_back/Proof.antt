@@ -4,7 +4,8 @@ use mathlib.Core.List.{[], _∷_}
 use mir.Syntax.{w64}
 use Rattle.meaning.specs.Calls.{takeBack}
 use Rattle.state.specs.Holds.{Reached}
-use Rattle.state.specs.Promises.{Answers, numberOf}
+use Rattle.refusals.specs.Numbers.{numberOf}
+use Rattle.state.specs.Promises.{Answers}
 use Rattle.decide.proofs.take_back.Symbol as callee
 use Rattle.decide.proofs.take_back.Met as promised
 use Rattle.desk.proofs.Lent.{meets-in}

@@ -8,8 +8,9 @@ use lib.ListN.{length}
 use Rattle.meaning.specs.Limits.{variableLimit}
 use Rattle.meaning.specs.Calls.{addVariable, tests}
 use Rattle.meaning.proofs.Proper.{leaves-proper}
-use Rattle.state.specs.declared.Refusal.the-variants.{Decided, Full}
-use Rattle.state.proofs.Answering.{finds, refuses, accepts}
+use Rattle.refusals.specs.declared.Refusal.the-variants.{Decided, Full}
+use Rattle.meaning.proofs.Finding.{finds}
+use Rattle.state.proofs.Answering.{refuses, accepts}
 use Rattle.state.proofs.Holding.{none-of}
 use Rattle.setup.proofs.Variables.{withVariable, variable-held}
 use borrow.Author.Needs.{needs}

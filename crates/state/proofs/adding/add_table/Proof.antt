@@ -1,30 +1,35 @@
 -- `state::adding::add_table` meets its contract. Assumes nothing.
 use mathlib.Core.Path.{refl, ap}
 use Rattle.meaning.specs.Calls.{addTable, ruleOf}
-use Rattle.state.specs.Promises.{numberOf, sortSaid}
-use Rattle.state.proofs.Holding.{sizes}
+use Rattle.refusals.specs.Numbers.{numberOf}
+use Rattle.state.specs.Promises.{sortSaid}
+use Rattle.state.proofs.Testing.{table-tested}
 use Rattle.state.proofs.Extending.{added-followable, added-answers, added-refused}
 use borrow.Author.Needs.{needs}
 use Rattle.state.proofs.adding.add_table.Statement.{statement}
 use Rattle.state.proofs.adding.add_table.Tie as tie
 
 table-tested-requires : tie.Need-table-tested-requires
-table-tested-requires c κs = sizes (c .before .before .pre) .used
+table-tested-requires c κs = search needs
 
 enum-told : tie.Need-enum-told
 enum-told c = search needs
 
 with-table-requires : tie.Need-with-table-requires
 with-table-requires c κs =
+    let start = c .before .before .before .before .before in
+    let a = start .args in
     let tested = c .before .before .table-tested in
-    (c .before .before .before .before .before .pre, tested .ensures .accepted (ap numberOf (c .enum-told .given .1)))
+    let told = table-tested (a .scope .now) (a .cells .now) (a .s .variables) (a .s .depth) (a .s .rules) (a .s .used) (tested .ensures) in
+    (start .pre, told .accepted (ap numberOf (c .enum-told .given .1)))
 
 followed-requires : tie.Need-followed-requires
 followed-requires c κs =
     let a = c .before .before .before .before .before .before .args in
     let tested = c .before .before .before .table-tested in
-    added-followable (a .s) (addTable (sortSaid (a .sort)) (a .scope .now) (a .cells .now)) (ruleOf (sortSaid (a .sort)) (a .scope .now) (a .cells .now)) (λ w. refl) (tested .result) (λ w L c. tested .ensures .right w L (sortSaid (a .sort)) c) (c .before .enum-told .given .1)
-    (tested .ensures .accepted (ap numberOf (c .before .enum-told .given .1)) .free) (c .with-table .result) (c .with-table .ensures) (c .before .before .before .before .before .before .pre)
+    let told = table-tested (a .scope .now) (a .cells .now) (a .s .variables) (a .s .depth) (a .s .rules) (a .s .used) (tested .ensures) in
+    added-followable (a .s) (addTable (sortSaid (a .sort)) (a .scope .now) (a .cells .now)) (ruleOf (sortSaid (a .sort)) (a .scope .now) (a .cells .now)) (λ w. refl) (tested .result) (λ w L c. told .right w L (sortSaid (a .sort)) c) (c .before .enum-told .given .1)
+    (told .accepted (ap numberOf (c .before .enum-told .given .1)) .free) (c .with-table .result) (c .with-table .ensures) (c .before .before .before .before .before .before .pre)
 
 enum-told-2 : tie.Need-enum-told-2
 enum-told-2 c = search needs
@@ -33,14 +38,16 @@ returns : tie.Need-returns
 returns c =
     let a = c .before .before .before .before .before .before .before .args in
     let tested = c .before .before .before .before .table-tested in
-    added-answers (a .s) (addTable (sortSaid (a .sort)) (a .scope .now) (a .cells .now)) (ruleOf (sortSaid (a .sort)) (a .scope .now) (a .cells .now)) (λ w. refl) (tested .result) (λ w L c. tested .ensures .right w L (sortSaid (a .sort)) c) (c .before .before .enum-told .given .1)
-    (tested .ensures .accepted (ap numberOf (c .before .before .enum-told .given .1)) .free) (c .before .with-table .result) (c .before .with-table .ensures) (c .followed .result) (c .followed .ensures)
+    let told = table-tested (a .scope .now) (a .cells .now) (a .s .variables) (a .s .depth) (a .s .rules) (a .s .used) (tested .ensures) in
+    added-answers (a .s) (addTable (sortSaid (a .sort)) (a .scope .now) (a .cells .now)) (ruleOf (sortSaid (a .sort)) (a .scope .now) (a .cells .now)) (λ w. refl) (tested .result) (λ w L c. told .right w L (sortSaid (a .sort)) c) (c .before .before .enum-told .given .1)
+    (told .accepted (ap numberOf (c .before .before .enum-told .given .1)) .free) (c .before .with-table .result) (c .before .with-table .ensures) (c .followed .result) (c .followed .ensures)
 
 returns-2 : tie.Need-returns-2
 returns-2 c =
     let a = c .before .before .before .before .before .args in
     let tested = c .before .before .table-tested in
-    added-refused (a .s) (addTable (sortSaid (a .sort)) (a .scope .now) (a .cells .now)) (ruleOf (sortSaid (a .sort)) (a .scope .now) (a .cells .now)) (λ w. refl) (tested .result) (λ w L c. tested .ensures .right w L (sortSaid (a .sort)) c) (c .enum-told2 .given .1)
+    let told = table-tested (a .scope .now) (a .cells .now) (a .s .variables) (a .s .depth) (a .s .rules) (a .s .used) (tested .ensures) in
+    added-refused (a .s) (addTable (sortSaid (a .sort)) (a .scope .now) (a .cells .now)) (ruleOf (sortSaid (a .sort)) (a .scope .now) (a .cells .now)) (λ w. refl) (tested .result) (λ w L c. told .right w L (sortSaid (a .sort)) c) (c .enum-told2 .given .1)
 
 pub add-table-spec : {M : Type 1} → statement M
 add-table-spec =

@@ -6,7 +6,7 @@ use lib.ListN.{length, take}
 use lib.Seq.{length-take-le}
 use mir.Syntax.{w8}
 use Rattle.blocks.proofs.Arrays.{array-length}
-use Rattle.state.proofs.Testing.{far-first, far-then, near-both}
+use Rattle.meaning.proofs.Tests.{far-first, far-then, near-both}
 use Rattle.costs.specs.Costs.{sameSaid}
 use Rattle.wcsp.proofs.Keying.{keyed-behind, keyed-faults}
 use Rattle.wcsp.proofs.Tupling.{no-tuple, no-cost, twice, fresh}

@@ -1,8 +1,29 @@
-// The numbers of document 01's table of refusals, for the programs that write them.
+// Document 01's table of refusals, with their numbers, and the answer of a call.
 ghost use mathlib.Core.Path.{_≡_};
 ghost use Rattle.meaning.specs.Refusals.{number};
-ghost use Rattle.state.specs.Promises.{tableOf};
-use state::Refusal;
+ghost use Rattle.refusals.specs.Numbers.{tableOf};
+
+pub enum Refusal {
+    NoSuchVariable,
+    VariableTwice,
+    WrongLength,
+    OutOfRange,
+    TupleTwice,
+    Full,
+    Malformed,
+    NotLeft,
+    TooManyDecisions,
+    TooDeep,
+    ShortBuffer,
+    NoObjective,
+    Decided,
+}
+
+// What a call answers.
+pub enum Answer {
+    Accepted,
+    Refused(Refusal),
+}
 
 // Document 01's number of a refusal.
 pub fn number_of(refusal: Refusal) -> u8

@@ -1,4 +1,4 @@
--- `state::adding::linear_tested` meets its contract. Assumes nothing.
+-- `checks::linear_tested` meets its contract. Assumes nothing.
 use mathlib.Core.Path.{sym, ap, _∙_}
 use mathlib.Core.Bool.{not}
 use mathlib.Core.Logic.{⊎-elim}
@@ -9,10 +9,11 @@ use lib.Dec.{eqb}
 use lib.ListN.{length}
 use Rattle.meaning.specs.Limits.{termLimit, coefficientLimit, boundLimit}
 use Rattle.meaning.specs.Calls.{some, beyond}
-use Rattle.state.proofs.Testing.{wrong-low, wrong-high, wrong-other, far-first, far-then, near-both, linear-decided, linear-length, linear-unknown, linear-twice, linear-beyond, linear-full, linear-accepted, twice-and-one}
+use Rattle.meaning.proofs.Tests.{far-first, far-then, near-both}
+use Rattle.checks.proofs.Testing.{wrong-low, wrong-high, wrong-other, linear-decided, linear-length, linear-unknown, linear-twice, linear-beyond, linear-full, linear-accepted, twice-and-one}
 use borrow.Author.Needs.{needs}
-use Rattle.state.proofs.adding.linear_tested.Statement.{statement}
-use Rattle.state.proofs.adding.linear_tested.Tie as tie
+use Rattle.checks.proofs.linear_tested.Statement.{statement}
+use Rattle.checks.proofs.linear_tested.Tie as tie
 
 returns : tie.Need-returns
 returns c =
@@ -64,9 +65,7 @@ add-is-full : tie.Need-add-is-full
 add-is-full c = search needs
 
 is-full-requires : tie.Need-is-full-requires
-is-full-requires c κs =
-    let few = ltb-false termLimit (length (c .before .before .before .before .before .before .before .before .before .before .before .before .before .args .scope .now)) (c .before .before .before .before .before .before .before .before .before .if3 .left) in
-    (search needs, omega arith)
+is-full-requires c κs = search needs
 
 returns-6 : tie.Need-returns-6
 returns-6 c =

@@ -1,4 +1,4 @@
--- `state::adding::table_tested` meets its contract. Assumes nothing.
+-- `checks::table_tested` meets its contract. Assumes nothing.
 use mathlib.Core.Path.{sym, _∙_}
 use mathlib.Core.Bool.{not}
 use mathlib.Core.Logic.{⊎-elim}
@@ -8,10 +8,10 @@ use borrow.Author.Tests.{ltb-true, ltb-false, eqb-true, not-false}
 use lib.Dec.{eqb}
 use lib.ListN.{length}
 use Rattle.meaning.specs.Limits.{arityLimit}
-use Rattle.state.proofs.Testing.{wrong-low, wrong-high, wrong-other, table-decided, table-length, table-unknown, table-twice, table-large, table-again, table-full, table-accepted}
+use Rattle.checks.proofs.Testing.{wrong-low, wrong-high, wrong-other, table-decided, table-length, table-unknown, table-twice, table-large, table-again, table-full, table-accepted}
 use borrow.Author.Needs.{needs}
-use Rattle.state.proofs.adding.table_tested.Statement.{statement}
-use Rattle.state.proofs.adding.table_tested.Tie as tie
+use Rattle.checks.proofs.table_tested.Statement.{statement}
+use Rattle.checks.proofs.table_tested.Tie as tie
 
 returns : tie.Need-returns
 returns c =
@@ -69,9 +69,7 @@ returns-6 c =
     (sym (c .before .tuple-twice .ensures) ∙ c .if8 .taken)
 
 is-full-requires : tie.Need-is-full-requires
-is-full-requires c κs =
-    let few = ltb-false arityLimit (length (c .before .before .before .before .before .before .before .before .before .before .before .before .before .before .args .scope .now)) (c .before .before .before .before .before .before .before .before .before .if3 .left) in
-    (search needs, omega arith)
+is-full-requires c κs = search needs
 
 returns-7 : tie.Need-returns-7
 returns-7 c =

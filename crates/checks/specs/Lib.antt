@@ -1,0 +1,2 @@
+-- The definitions that the contracts of `checks` cite.
+pub mod Tests
