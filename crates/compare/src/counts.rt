@@ -136,46 +136,43 @@ fn counted(counts: &[u64; KINDS], kind: usize) -> u64 {
 
 // Writes every count.
 pub(crate) fn write_counts(counts: &[u64; KINDS]) {
-    write_line(b"networks ", counted(counts, NETWORKS));
-    write_line(b"at the limits ", counted(counts, CROWDED));
-    write_line(b"calls ", counted(counts, CALLS));
-    write_line(b"lists compared ", counted(counts, LISTS));
-    write_line(b"solved ", counted(counts, SOLVED));
-    write_line(b"found ", counted(counts, FOUND));
-    write_line(b"inconsistent ", counted(counts, NONE_FOUND));
-    write_accepted(counts);
+    write_count(counts, b"networks ", NETWORKS);
+    write_count(counts, b"at the limits ", CROWDED);
+    write_count(counts, b"calls ", CALLS);
+    write_count(counts, b"lists compared ", LISTS);
+    write_count(counts, b"solved ", SOLVED);
+    write_count(counts, b"found ", FOUND);
+    write_count(counts, b"inconsistent ", NONE_FOUND);
+    write_tables(counts);
+    write_others(counts);
     write_refused(counts);
-    write_line(b"differences ", counted(counts, DIFFERENCES));
+    write_count(counts, b"differences ", DIFFERENCES);
 }
 
-// Writes the accepted calls by kind.
-fn write_accepted(counts: &[u64; KINDS]) {
-    write_line(b"variables ", counted(counts, KIND));
-    write_line(b"variables with an empty set ", counted(counts, EMPTY_SET));
-    write_line(b"allowing tables ", counted(counts, KIND + 1));
-    write_line(b"forbidding tables ", counted(counts, KIND + 2));
-    write_line(b"tables without tuples ", counted(counts, EMPTY_TABLE));
-    write_line(
-        b"tables with undeclared values ",
-        counted(counts, UNDECLARED),
-    );
-    write_line(b"linear rules ", counted(counts, KIND + 3));
-    write_line(
+// Writes the accepted variables and tables.
+fn write_tables(counts: &[u64; KINDS]) {
+    write_count(counts, b"variables ", KIND);
+    write_count(counts, b"variables with an empty set ", EMPTY_SET);
+    write_count(counts, b"allowing tables ", KIND + 1);
+    write_count(counts, b"forbidding tables ", KIND + 2);
+    write_count(counts, b"tables without tuples ", EMPTY_TABLE);
+    write_count(counts, b"tables with undeclared values ", UNDECLARED);
+}
+
+// Writes the other accepted calls.
+fn write_others(counts: &[u64; KINDS]) {
+    write_count(counts, b"linear rules ", KIND + 3);
+    write_count(
+        counts,
         b"linear rules with a negative coefficient ",
-        counted(counts, NEGATIVE),
+        NEGATIVE,
     );
-    write_line(
-        b"linear rules with a zero coefficient ",
-        counted(counts, ZERO),
-    );
-    write_line(b"objective vectors ", counted(counts, KIND + 4));
-    write_line(
-        b"objective vectors with a repeat ",
-        counted(counts, REPEATED),
-    );
-    write_line(b"pins ", counted(counts, KIND + 5));
-    write_line(b"bans ", counted(counts, KIND + 6));
-    write_line(b"take-backs ", counted(counts, KIND + 7));
+    write_count(counts, b"linear rules with a zero coefficient ", ZERO);
+    write_count(counts, b"objective vectors ", KIND + 4);
+    write_count(counts, b"objective vectors with a repeat ", REPEATED);
+    write_count(counts, b"pins ", KIND + 5);
+    write_count(counts, b"bans ", KIND + 6);
+    write_count(counts, b"take-backs ", KIND + 7);
 }
 
 // Writes how often each number was given.
@@ -184,15 +181,15 @@ fn write_refused(counts: &[u64; KINDS]) {
     while number < 14 {
         io::write_all(libc::STDOUT_FILENO, b"refused ");
         write_number(number as u64);
-        write_line(b": ", counted(counts, number));
+        write_count(counts, b": ", number);
         number += 1;
     }
 }
 
-// A line with a name and a number behind it.
-fn write_line(name: &[u8], number: u64) {
+// A line with a name and a count behind it.
+fn write_count(counts: &[u64; KINDS], name: &[u8], kind: usize) {
     io::write_all(libc::STDOUT_FILENO, name);
-    write_number(number);
+    write_number(counted(counts, kind));
     io::write_all(libc::STDOUT_FILENO, b"\n");
 }
 

@@ -17,8 +17,8 @@ use crate::places::word_at;
 use decide::DecisionAnswer;
 use decide::Left;
 use leximin::Solved;
-use refusals::number_of;
 use refusals::Answer;
+use refusals::number_of;
 use state::Sort;
 use state::State;
 

@@ -11,9 +11,9 @@ use blocks::list_of;
 use blocks::lists_after;
 use blocks::put_lists;
 use filters::settled;
-use state::AfterCall;
 use refusals::Answer;
 use refusals::Refusal;
+use state::AfterCall;
 use state::State;
 
 // What a pin or a ban answers.

@@ -12,9 +12,9 @@ ghost use Rattle.search.specs.Search.{Given};
 ghost use Rattle.leximin.specs.Solving.{Named, Climbed, SolvedBy, Solves};
 use blocks::lists_after;
 use profile::sorted_up;
+use refusals::Refusal;
 use search::Rota;
 use search::first_reaching;
-use refusals::Refusal;
 use state::State;
 
 // What solving answers.

@@ -10,9 +10,9 @@ ghost use Rattle.state.specs.Holds.{Holds, Reached};
 ghost use Rattle.refusals.specs.Numbers.{numberOf};
 ghost use Rattle.state.specs.Promises.{Answers};
 use arguments::any_unknown;
-use state::AfterCall;
 use refusals::Answer;
 use refusals::Refusal;
+use state::AfterCall;
 use state::State;
 
 // The state in which nothing stands.

@@ -4,7 +4,6 @@ mod writing;
 
 pub use adding::add_linear;
 pub use adding::add_table;
-
 use refusals::Answer;
 
 // What stands, laid out in flat arrays: counts, and zeros past them.

@@ -57,9 +57,11 @@ loop-less c = let some : 0 < length (c .before .before .before .before .before .
 loop-again : tie.Need-loop-again Inv-loop μ-loop
 loop-again c =
     let a = c .before .before .before .before .before .before .before .before .args in
-    let l = c .before .before .before .before .loop in
-    (search needs, passed (again-search (length (a .tuple .now)) (omega (arith, c .before .before .before .before .before .if1 .left)) (a .tuple .now)) (a .cells .now) (l .at) (l .inv .1) (search needs)
-    (sym (ap (same (a .tuple .now)) (part-is (length (a .tuple .now)) (a .cells .now) (l .at))) ∙ sym (c .before .are-same .ensures) ∙ c .if2 .left))
+    let l = c .before .before .before .before .loop in (
+      search needs,
+      passed (again-search (length (a .tuple .now)) (omega (arith, c .before .before .before .before .before .if1 .left)) (a .tuple .now)) (a .cells .now) (l .at) (l .inv .1) (search needs)
+          (sym (ap (same (a .tuple .now)) (part-is (length (a .tuple .now)) (a .cells .now) (l .at))) ∙ sym (c .before .are-same .ensures) ∙ c .if2 .left),
+    )
 
 returns-3 : tie.Need-returns-3 Inv-loop μ-loop
 returns-3 c =

@@ -22,14 +22,11 @@ write-all-requires c κs = search needs
 write-number-requires : tie.Need-write-number-requires Inv-loop μ-loop
 write-number-requires c κs = search needs
 
-slice-aggregate-write-line : tie.Need-slice-aggregate-write-line Inv-loop μ-loop
-slice-aggregate-write-line c = search needs
+slice-aggregate-write-count : tie.Need-slice-aggregate-write-count Inv-loop μ-loop
+slice-aggregate-write-count c = search needs
 
-counted-requires : tie.Need-counted-requires Inv-loop μ-loop
-counted-requires c κs = search needs
-
-write-line-requires : tie.Need-write-line-requires Inv-loop μ-loop
-write-line-requires c κs = search needs
+write-count-requires : tie.Need-write-count-requires Inv-loop μ-loop
+write-count-requires c κs = search needs
 
 add-number : tie.Need-add-number Inv-loop μ-loop
 add-number c = search needs
@@ -53,9 +50,8 @@ write-refused-spec =
     slice-aggregate-write-all
     write-all-requires
     write-number-requires
-    slice-aggregate-write-line
-    counted-requires
-    write-line-requires
+    slice-aggregate-write-count
+    write-count-requires
     add-number
     loop-less
     loop-again

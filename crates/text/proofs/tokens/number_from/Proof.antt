@@ -1,10 +1,11 @@
 -- `text::tokens::number_from` meets its contract. Assumes nothing.
-use mathlib.Core.Path.{ap}
+use mathlib.Core.Path.{ap, ap₂, _∙_}
 use Prim.Native.Nat.{_^_}
 use native.Mathlib.Omega.{arith}
 use borrow.Author.Needs.{needs}
 use lib.ListN.{length}
-use Rattle.text.specs.Tokens.{numberAt}
+use Rattle.text.specs.Words.{tokenAt}
+use Rattle.text.specs.Tokens.{numberIn, numberAt}
 use Rattle.text.proofs.Places.{end-fits}
 use Rattle.text.proofs.tokens.number_from.Statement.{statement}
 use Rattle.text.proofs.tokens.number_from.Tie as tie
@@ -21,7 +22,11 @@ number-in-requires c κs =
 
 returns : tie.Need-returns
 unfolding numberAt
-returns c = cc
+returns c =
+    let text = c .before .before .before .before .args .text .now in
+    let begins = c .before .before .skip-blanks .ensures in
+    let token = c .before .token-at .ensures ∙ ap (tokenAt text) begins in
+    c .number-in .ensures ∙ ap₂ numberIn token begins
 
 pub number-from-spec : {M : Type 1} → statement M
 number-from-spec = tie.close (tie.spec skip-blanks-requires token-at-requires number-in-requires returns)
