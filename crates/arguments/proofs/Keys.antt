@@ -9,7 +9,7 @@ use native.Mathlib.Decide.{decLe}
 use native.Mathlib.Omega.{arith}
 use lib.ListN.{length, getD, set, take, drop, length-set, length-drop}
 use lib.Seq.{drop-drop}
-use Rattle.meaning.specs.Calls.{some, same, repeats, rows}
+use Rattle.meaning.specs.Calls.{some, same, repeats}
 use Rattle.tuples.specs.Keys.{keyLimit, keyFrom, Marked}
 use Rattle.tuples.proofs.Marks.{unmarked, marked-too}
 use Rattle.tuples.specs.Rows.{tupleAt, tuplesIn}

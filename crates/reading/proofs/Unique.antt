@@ -1,12 +1,12 @@
 -- Any two results that a public contract of this crate allows are the same. Assumes nothing.
-use mathlib.Core.Path.{_≡_, refl, sym, ap, ap₂, _∙_}
+use mathlib.Core.Path.{_≡_, sym, ap, ap₂, _∙_}
 use mathlib.Core.Bool.{true≢false}
 use Prim.Native.Nat.{ℕ}
 use Rattle.refusals.proofs.Unique.{same-refusal}
 use Rattle.reading.specs.declared.Step.{Step}
 use Rattle.reading.specs.declared.Step.the-variants.{Fault, Read}
-use Rattle.reading.specs.Reading.{Reading, fault, got}
-use Rattle.reading.specs.Steps.{numberOf, ComesTo}
+use Rattle.reading.specs.Reading.{Reading}
+use Rattle.reading.specs.Steps.{ComesTo}
 use Rattle.reading.proofs.Readings.{faultOf, isFault, whatOr, placeOr}
 
 -- each contract says that the step is that of one reading

@@ -1,12 +1,12 @@
 -- What a file means (document 01, "Reading wcsp"): its first fault, or the variables and tables that it adds.
-use mathlib.Core.Bool.{Bool, not, _||_, cond}
+use mathlib.Core.Bool.{Bool, _||_}
 use mathlib.Core.List.{List, [], _∷_}
 use Prim.Native.Nat.{ℕ, _+_, _-_, _*_, _^_}
 use lib.Dec.{leb, ltb, eqb}
 use lib.ListN.{length, getD}
 use Rattle.meaning.specs.Limits.{variableLimit, valueLimit, ruleLimit, roomLimit, arityLimit}
 use Rattle.meaning.specs.Refusals.{Refusal, noSuchVariable, variableTwice, wrongLength, outOfRange, tupleTwice, full}
-use Rattle.meaning.specs.Calls.{Call, Sort, allow, forbid, addVariable, addTable, some, same}
+use Rattle.meaning.specs.Calls.{Call, Sort, addVariable, addTable, some, same}
 use Rattle.filters.specs.Layout.{joined}
 use Rattle.text.specs.Words.{tokenStart}
 use Rattle.costs.specs.Costs.{sameSaid, sortBy}

@@ -1,8 +1,8 @@
 -- `checks::table_tested` meets its contract. Assumes nothing.
-use mathlib.Core.Path.{sym, _∙_}
+use mathlib.Core.Path.{_≡_, sym, _∙_}
 use mathlib.Core.Bool.{not}
 use mathlib.Core.Logic.{⊎-elim}
-use Prim.Native.Nat.{_%_}
+use Prim.Native.Nat.{_%_, _≤_, _<_}
 use native.Mathlib.Omega.{arith}
 use borrow.Author.Tests.{ltb-true, ltb-false, eqb-true, not-false}
 use lib.Dec.{eqb}
@@ -12,6 +12,20 @@ use Rattle.checks.proofs.Testing.{wrong-low, wrong-high, wrong-other, t
 use borrow.Author.Needs.{needs}
 use Rattle.checks.proofs.table_tested.Statement.{statement}
 use Rattle.checks.proofs.table_tested.Tie as tie
+
+-- what the first two tests have shown
+module _ (c : tie.Else4) where
+  abbrev start : tie.Start
+  start = c .before .before .before .before .before .before
+
+  free : start .args .depth ≡ 0
+  free = omega (arith, c .before .before .before .if1 .left)
+
+  size : (0 < length (start .args .scope .now)) × (length (start .args .scope .now) ≤ arityLimit)
+  size = (omega (arith, c .before .before .if2 .left), ltb-false _ _ (c .before .if3 .left))
+
+  whole : length (start .args .cells .now) % length (start .args .scope .now) ≡ 0
+  whole = eqb-true _ _ (not-false _ (c .if4 .left))
 
 returns : tie.Need-returns
 returns c =
@@ -36,8 +50,10 @@ any-unknown-requires c κs = search needs
 
 returns-3 : tie.Need-returns-3
 returns-3 c =
-    let a = c .before .before .before .before .before .before .before .before .args in
-    table-unknown (a .variables) (a .depth) (a .rules) (a .used) (a .scope .now) (a .cells .now) (omega (arith, c .before .before .before .before .before .if1 .left)) (omega (arith, c .before .before .before .before .if2 .left), ltb-false _ _ (c .before .before .before .if3 .left)) (eqb-true _ _ (not-false _ (c .before .before .if4 .left)))
+    let sized = c .before .before in
+    let start = sized .before .before .before .before .before .before in
+    let a = start .args in
+    table-unknown (a .variables) (a .depth) (a .rules) (a .used) (a .scope .now) (a .cells .now) (free sized) (size sized) (whole sized)
     (sym (c .before .any-unknown .ensures) ∙ c .if5 .taken)
 
 any-twice-requires : tie.Need-any-twice-requires
@@ -45,27 +61,39 @@ any-twice-requires c κs = search needs
 
 returns-4 : tie.Need-returns-4
 returns-4 c =
-    let a = c .before .before .before .before .before .before .before .before .before .before .args in
-    table-twice (a .variables) (a .depth) (a .rules) (a .used) (a .scope .now) (a .cells .now) (omega (arith, c .before .before .before .before .before .before .before .if1 .left)) (omega (arith, c .before .before .before .before .before .before .if2 .left), ltb-false _ _ (c .before .before .before .before .before .if3 .left)) (eqb-true _ _ (not-false _ (c .before .before .before .before .if4 .left)))
-    (sym (c .before .before .before .any-unknown .ensures) ∙ c .before .before .if5 .left) (sym (c .before .any-twice .ensures) ∙ c .if6 .taken)
+    let known = c .before .before in
+    let sized = known .before .before in
+    let start = sized .before .before .before .before .before .before in
+    let a = start .args in
+    table-twice (a .variables) (a .depth) (a .rules) (a .used) (a .scope .now) (a .cells .now) (free sized) (size sized) (whole sized)
+    (sym (known .before .any-unknown .ensures) ∙ known .if5 .left) (sym (c .before .any-twice .ensures) ∙ c .if6 .taken)
 
 any-large-requires : tie.Need-any-large-requires
 any-large-requires c κs = search needs
 
 returns-5 : tie.Need-returns-5
 returns-5 c =
-    let a = c .before .before .before .before .before .before .before .before .before .before .before .before .args in
-    table-large (a .variables) (a .depth) (a .rules) (a .used) (a .scope .now) (a .cells .now) (omega (arith, c .before .before .before .before .before .before .before .before .before .if1 .left)) (omega (arith, c .before .before .before .before .before .before .before .before .if2 .left), ltb-false _ _ (c .before .before .before .before .before .before .before .if3 .left)) (eqb-true _ _ (not-false _ (c .before .before .before .before .before .before .if4 .left)))
-    (sym (c .before .before .before .before .before .any-unknown .ensures) ∙ c .before .before .before .before .if5 .left) (sym (c .before .before .before .any-twice .ensures) ∙ c .before .before .if6 .left) (sym (c .before .any-large .ensures) ∙ c .if7 .taken)
+    let once = c .before .before in
+    let known = once .before .before in
+    let sized = known .before .before in
+    let start = sized .before .before .before .before .before .before in
+    let a = start .args in
+    table-large (a .variables) (a .depth) (a .rules) (a .used) (a .scope .now) (a .cells .now) (free sized) (size sized) (whole sized)
+    (sym (known .before .any-unknown .ensures) ∙ known .if5 .left) (sym (once .before .any-twice .ensures) ∙ once .if6 .left) (sym (c .before .any-large .ensures) ∙ c .if7 .taken)
 
 tuple-twice-requires : tie.Need-tuple-twice-requires
 tuple-twice-requires c κs = search needs
 
 returns-6 : tie.Need-returns-6
 returns-6 c =
-    let a = c .before .before .before .before .before .before .before .before .before .before .before .before .before .before .args in
-    table-again (a .variables) (a .depth) (a .rules) (a .used) (a .scope .now) (a .cells .now) (omega (arith, c .before .before .before .before .before .before .before .before .before .before .before .if1 .left)) (omega (arith, c .before .before .before .before .before .before .before .before .before .before .if2 .left), ltb-false _ _ (c .before .before .before .before .before .before .before .before .before .if3 .left)) (eqb-true _ _ (not-false _ (c .before .before .before .before .before .before .before .before .if4 .left)))
-    (sym (c .before .before .before .before .before .before .before .any-unknown .ensures) ∙ c .before .before .before .before .before .before .if5 .left) (sym (c .before .before .before .before .before .any-twice .ensures) ∙ c .before .before .before .before .if6 .left) (sym (c .before .before .before .any-large .ensures) ∙ c .before .before .if7 .left)
+    let small = c .before .before in
+    let once = small .before .before in
+    let known = once .before .before in
+    let sized = known .before .before in
+    let start = sized .before .before .before .before .before .before in
+    let a = start .args in
+    table-again (a .variables) (a .depth) (a .rules) (a .used) (a .scope .now) (a .cells .now) (free sized) (size sized) (whole sized)
+    (sym (known .before .any-unknown .ensures) ∙ known .if5 .left) (sym (once .before .any-twice .ensures) ∙ once .if6 .left) (sym (small .before .any-large .ensures) ∙ small .if7 .left)
     (sym (c .before .tuple-twice .ensures) ∙ c .if8 .taken)
 
 is-full-requires : tie.Need-is-full-requires
@@ -73,17 +101,29 @@ is-full-requires c κs = search needs
 
 returns-7 : tie.Need-returns-7
 returns-7 c =
-    let a = c .before .before .before .before .before .before .before .before .before .before .before .before .before .before .before .before .args in
-    table-full (a .variables) (a .depth) (a .rules) (a .used) (a .scope .now) (a .cells .now) (omega (arith, c .before .before .before .before .before .before .before .before .before .before .before .before .before .if1 .left)) (omega (arith, c .before .before .before .before .before .before .before .before .before .before .before .before .if2 .left), ltb-false _ _ (c .before .before .before .before .before .before .before .before .before .before .before .if3 .left)) (eqb-true _ _ (not-false _ (c .before .before .before .before .before .before .before .before .before .before .if4 .left)))
-    (sym (c .before .before .before .before .before .before .before .before .before .any-unknown .ensures) ∙ c .before .before .before .before .before .before .before .before .if5 .left) (sym (c .before .before .before .before .before .before .before .any-twice .ensures) ∙ c .before .before .before .before .before .before .if6 .left) (sym (c .before .before .before .before .before .any-large .ensures) ∙ c .before .before .before .before .if7 .left)
-    (sym (c .before .before .before .tuple-twice .ensures) ∙ c .before .before .if8 .left) (sym (c .before .is-full .ensures) ∙ c .if9 .taken)
+    let apart = c .before .before in
+    let small = apart .before .before in
+    let once = small .before .before in
+    let known = once .before .before in
+    let sized = known .before .before in
+    let start = sized .before .before .before .before .before .before in
+    let a = start .args in
+    table-full (a .variables) (a .depth) (a .rules) (a .used) (a .scope .now) (a .cells .now) (free sized) (size sized) (whole sized)
+    (sym (known .before .any-unknown .ensures) ∙ known .if5 .left) (sym (once .before .any-twice .ensures) ∙ once .if6 .left) (sym (small .before .any-large .ensures) ∙ small .if7 .left)
+    (sym (apart .before .tuple-twice .ensures) ∙ apart .if8 .left) (sym (c .before .is-full .ensures) ∙ c .if9 .taken)
 
 returns-8 : tie.Need-returns-8
 returns-8 c =
-    let a = c .before .before .before .before .before .before .before .before .before .before .before .before .before .before .before .before .args in
-    table-accepted (a .variables) (a .depth) (a .rules) (a .used) (a .scope .now) (a .cells .now) (omega (arith, c .before .before .before .before .before .before .before .before .before .before .before .before .before .if1 .left)) (omega (arith, c .before .before .before .before .before .before .before .before .before .before .before .before .if2 .left), ltb-false _ _ (c .before .before .before .before .before .before .before .before .before .before .before .if3 .left)) (eqb-true _ _ (not-false _ (c .before .before .before .before .before .before .before .before .before .before .if4 .left)))
-    (sym (c .before .before .before .before .before .before .before .before .before .any-unknown .ensures) ∙ c .before .before .before .before .before .before .before .before .if5 .left) (sym (c .before .before .before .before .before .before .before .any-twice .ensures) ∙ c .before .before .before .before .before .before .if6 .left) (sym (c .before .before .before .before .before .any-large .ensures) ∙ c .before .before .before .before .if7 .left)
-    (sym (c .before .before .before .tuple-twice .ensures) ∙ c .before .before .if8 .left) (sym (c .before .is-full .ensures) ∙ c .if9 .left)
+    let apart = c .before .before in
+    let small = apart .before .before in
+    let once = small .before .before in
+    let known = once .before .before in
+    let sized = known .before .before in
+    let start = sized .before .before .before .before .before .before in
+    let a = start .args in
+    table-accepted (a .variables) (a .depth) (a .rules) (a .used) (a .scope .now) (a .cells .now) (free sized) (size sized) (whole sized)
+    (sym (known .before .any-unknown .ensures) ∙ known .if5 .left) (sym (once .before .any-twice .ensures) ∙ once .if6 .left) (sym (small .before .any-large .ensures) ∙ small .if7 .left)
+    (sym (apart .before .tuple-twice .ensures) ∙ apart .if8 .left) (sym (c .before .is-full .ensures) ∙ c .if9 .left)
 
 pub table-tested-spec : {M : Type 1} → statement M
 table-tested-spec =

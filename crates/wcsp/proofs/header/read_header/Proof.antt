@@ -36,7 +36,8 @@ no-header-requires-2 c κs = search needs
 
 returns-2 : tie.Need-returns-2
 returns-2 c =
-    nothing-kept _ (c .no-header2 .ensures) (comes-by (number-on (c .before .before .before .before .before .before .before .skip-name .ensures) _ (c .before .before .before .before .before .named .given .1)) (stops (c .before .before .before .number-within .ensures) _ (c .before .enum-told2 .given .1)))
+    let named = c .before .before .before .before .before in
+    nothing-kept _ (c .no-header2 .ensures) (comes-by (number-on (named .before .before .skip-name .ensures) _ (named .named .given .1)) (stops (c .before .before .before .number-within .ensures) _ (c .before .enum-told2 .given .1)))
 
 number-within-requires-2 : tie.Need-number-within-requires-2
 number-within-requires-2 c κs = search needs
@@ -52,7 +53,9 @@ no-header-requires-3 c κs = search needs
 
 returns-3 : tie.Need-returns-3
 returns-3 c =
-    nothing-kept _ (c .no-header3 .ensures) (comes-by (number-on (c .before .before .before .before .before .before .before .before .before .before .before .skip-name .ensures) _ (c .before .before .before .before .before .before .before .before .before .named .given .1) ∙ number-on (c .before .before .before .before .before .before .before .number-within .ensures) _ (c .before .before .before .before .before .first .given .1)) (stops (c .before .before .before .number-within2 .ensures) _ (c .before .enum-told3 .given .1)))
+    let first = c .before .before .before .before .before in
+    let named = first .before .before .before .before in
+    nothing-kept _ (c .no-header3 .ensures) (comes-by (number-on (named .before .before .skip-name .ensures) _ (named .named .given .1) ∙ number-on (first .before .before .number-within .ensures) _ (first .first .given .1)) (stops (c .before .before .before .number-within2 .ensures) _ (c .before .enum-told3 .given .1)))
 
 number-within-requires-3 : tie.Need-number-within-requires-3
 number-within-requires-3 c κs = search needs
@@ -68,14 +71,21 @@ no-header-requires-4 c κs = search needs
 
 returns-4 : tie.Need-returns-4
 returns-4 c =
-    nothing-kept _ (c .no-header4 .ensures) (comes-by (number-on (c .before .before .before .before .before .before .before .before .before .before .before .before .before .before .before .skip-name .ensures) _ (c .before .before .before .before .before .before .before .before .before .before .before .before .before .named .given .1) ∙ number-on (c .before .before .before .before .before .before .before .before .before .before .before .number-within .ensures) _ (c .before .before .before .before .before .before .before .before .before .first .given .1) ∙ number-on (c .before .before .before .before .before .before .before .number-within2 .ensures) _ (c .before .before .before .before .before .second .given .1)) (stops (c .before .before .before .number-within3 .ensures) _ (c .before .enum-told4 .given .1)))
+    let second = c .before .before .before .before .before in
+    let first = second .before .before .before .before in
+    let named = first .before .before .before .before in
+    nothing-kept _ (c .no-header4 .ensures) (comes-by (number-on (named .before .before .skip-name .ensures) _ (named .named .given .1) ∙ number-on (first .before .before .number-within .ensures) _ (first .first .given .1) ∙ number-on (second .before .before .number-within2 .ensures) _ (second .second .given .1)) (stops (c .before .before .before .number-within3 .ensures) _ (c .before .enum-told4 .given .1)))
 
 any-number-requires : tie.Need-any-number-requires
 any-number-requires c κs = search needs
 
 returns-5 : tie.Need-returns-5
 returns-5 c =
-    ((in-range _ _ _ _ _ _ (number-is (c .before .before .before .before .before .before .before .before .before .before .before .before .number-within .ensures) (c .before .before .before .before .before .before .before .before .before .before .first .given .1)) .1, in-range _ _ _ _ _ _ (number-is (c .before .before .before .before .before .before .before .before .number-within2 .ensures) (c .before .before .before .before .before .before .second .given .1)) .1, in-range _ _ _ _ _ _ (number-is (c .before .before .before .before .number-within3 .ensures) (c .before .before .third .given .1)) .1), comes-by (number-on (c .before .before .before .before .before .before .before .before .before .before .before .before .before .before .before .before .skip-name .ensures) _ (c .before .before .before .before .before .before .before .before .before .before .before .before .before .before .named .given .1) ∙ number-on (c .before .before .before .before .before .before .before .before .before .before .before .before .number-within .ensures) _ (c .before .before .before .before .before .before .before .before .before .before .first .given .1) ∙ number-on (c .before .before .before .before .before .before .before .before .number-within2 .ensures) _ (c .before .before .before .before .before .before .second .given .1) ∙ number-on (c .before .before .before .before .number-within3 .ensures) _ (c .before .before .third .given .1)) (last-one (c .any-number .ensures) _ (λ x v k. (refl, refl, refl))))
+    let third = c .before .before in
+    let second = third .before .before .before .before in
+    let first = second .before .before .before .before in
+    let named = first .before .before .before .before in
+    ((in-range _ _ _ _ _ _ (number-is (first .before .before .number-within .ensures) (first .first .given .1)) .1, in-range _ _ _ _ _ _ (number-is (second .before .before .number-within2 .ensures) (second .second .given .1)) .1, in-range _ _ _ _ _ _ (number-is (third .before .before .number-within3 .ensures) (third .third .given .1)) .1), comes-by (number-on (named .before .before .skip-name .ensures) _ (named .named .given .1) ∙ number-on (first .before .before .number-within .ensures) _ (first .first .given .1) ∙ number-on (second .before .before .number-within2 .ensures) _ (second .second .given .1) ∙ number-on (third .before .before .number-within3 .ensures) _ (third .third .given .1)) (last-one (c .any-number .ensures) _ (λ x v k. (refl, refl, refl))))
 
 pub read-header-spec : {M : Type 1} → statement M
 read-header-spec =

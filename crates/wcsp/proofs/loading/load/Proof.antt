@@ -34,15 +34,20 @@ stopped-requires-2 c κs = search needs
 
 returns-2 : tie.Need-returns-2
 returns-2 c =
-    no-sizes _ ((c .before .before .before .before .before .before .before .read-header .ensures) .1) (c .before .before .before .before .before .first .given .1) _ ((c .before .before .before .read-sizes .ensures) .2) _ (c .stopped2 .ensures) (c .before .enum-told2 .given .1)
+    let first = c .before .before .before .before .before in
+    no-sizes _ ((first .before .before .read-header .ensures) .1) (first .first .given .1) _ ((c .before .before .before .read-sizes .ensures) .2) _ (c .stopped2 .ensures) (c .before .enum-told2 .given .1)
 
 declared-requires : tie.Need-declared-requires
 declared-requires c κs =
-    ((c .before .before .before .before .read-sizes .ensures) .0, (c .before .before .before .before .before .before .before .before .read-header .ensures) .0 .0)
+    let second = c .before .before in
+    let first = second .before .before .before .before in
+    ((second .before .before .read-sizes .ensures) .0, (first .before .before .read-header .ensures) .0 .0)
 
 read-tables-requires : tie.Need-read-tables-requires
 read-tables-requires c κs =
-    ((c .before .before .before .before .before .read-sizes .ensures) .0, sizes-whole _ ((c .before .before .before .before .before .before .before .before .before .read-header .ensures) .1) (c .before .before .before .before .before .before .before .first .given .1) _ ((c .before .before .before .before .before .read-sizes .ensures) .2) (c .before .before .before .second .given .1), (c .before .before .before .before .before .before .before .before .before .read-header .ensures) .0 .0, (c .declared .ensures))
+    let second = c .before .before .before in
+    let first = second .before .before .before .before in
+    ((second .before .before .read-sizes .ensures) .0, sizes-whole _ ((first .before .before .read-header .ensures) .1) (first .first .given .1) _ ((second .before .before .read-sizes .ensures) .2) (second .second .given .1), (first .before .before .read-header .ensures) .0 .0, (c .declared .ensures))
 
 enum-known-third : tie.Need-enum-known-third
 enum-known-third c = search needs
@@ -55,14 +60,19 @@ stopped-requires-3 c κs = search needs
 
 returns-3 : tie.Need-returns-3
 returns-3 c =
-    no-tables _ ((c .before .before .before .before .before .before .before .before .before .before .before .before .before .read-header .ensures) .1) (c .before .before .before .before .before .before .before .before .before .before .before .first .given .1) _ ((c .before .before .before .before .before .before .before .before .before .read-sizes .ensures) .2) (c .before .before .before .before .before .before .before .second .given .1) _ (c .before .before .before .read-tables .ensures) _ (c .stopped3 .ensures) (c .before .enum-told3 .given .1)
+    let second = c .before .before .before .before .before .before .before in
+    let first = second .before .before .before .before in
+    no-tables _ ((first .before .before .read-header .ensures) .1) (first .first .given .1) _ ((second .before .before .read-sizes .ensures) .2) (second .second .given .1) _ (c .before .before .before .read-tables .ensures) _ (c .stopped3 .ensures) (c .before .enum-told3 .given .1)
 
 read-end-requires : tie.Need-read-end-requires
 read-end-requires c κs = search needs
 
 returns-4 : tie.Need-returns-4
 returns-4 c =
-    the-file _ ((c .before .before .before .before .before .before .before .before .before .before .before .before .before .before .before .read-header .ensures) .1) (c .before .before .before .before .before .before .before .before .before .before .before .before .before .first .given .1) _ ((c .before .before .before .before .before .before .before .before .before .before .before .read-sizes .ensures) .2) (c .before .before .before .before .before .before .before .before .before .second .given .1) _ (c .before .before .before .before .before .read-tables .ensures) (c .before .before .before .third .given .1) (c .before .read-end .ensures) (omega (arith, (c .before .before .before .before .before .before .before .before .before .before .before .read-sizes .ensures) .1, (c .before .before .before .before .before .before .before .before .before .before .before .before .before .before .before .read-header .ensures) .0 .0))
+    let third = c .before .before .before in
+    let second = third .before .before .before .before .before .before in
+    let first = second .before .before .before .before in
+    the-file _ ((first .before .before .read-header .ensures) .1) (first .first .given .1) _ ((second .before .before .read-sizes .ensures) .2) (second .second .given .1) _ (third .before .before .read-tables .ensures) (third .third .given .1) (c .before .read-end .ensures) (omega (arith, (second .before .before .read-sizes .ensures) .1, (first .before .before .read-header .ensures) .0 .0))
 
 pub load-spec : {M : Type 1} → statement M
 load-spec =

@@ -2,13 +2,14 @@
 use mathlib.Core.Path.{_≡_, sym}
 use lib.Seq.{length-take-le}
 use mathlib.Core.List.{List, []}
-use Prim.Native.Nat.{_-_, _≤_}
+use Prim.Native.Nat.{_+_, _-_, _≤_}
 use native.Mathlib.Omega.{arith}
 use borrow.Author.Needs.{needs}
 use lib.ListN.{length, take}
 use Rattle.meaning.specs.Limits.{roomLimit}
 use Rattle.state.specs.Runs.{Run}
 use Rattle.state.proofs.Runs.{run-reached}
+use Rattle.wcsp.specs.declared.tables.Table as Code
 use Rattle.wcsp.specs.Files.{Table, taken, table, variableCalls, tableCalls}
 use Rattle.reading.proofs.Several.{SoFar, none-yet, one-more, fault-there, all-read}
 use Rattle.wcsp.proofs.Adding.{table-runs, used-more, no-tables, none-taken}
@@ -20,6 +21,22 @@ Inv-loop text at sizes n count state₀ cells₀ place₀ used₀ k₀ state cel
 
 abbrev μ-loop : tie.MeasureT-loop
 μ-loop text at sizes n count state₀ cells₀ place₀ used₀ k₀ state cells place used k = count - k
+
+-- what the places of the code share once a table is read
+module _ (c : tie.After-step Inv-loop μ-loop) where
+  abbrev loop : tie.At-loop Inv-loop μ-loop
+  loop = c .before .before .before .before .before
+
+  abbrev read : Code.Table
+  read = c .before .before .read-table .result
+
+  -- it is the next one, and there is room for it
+  table-fits : (loop .loop .used + (read .arity + read .filled) ≤ roomLimit) × (read .arity ≤ length (read .scope))
+  table-fits =
+      let a = loop .before .before .args in
+      let (ts, u, so-far, run) = loop .loop .inv .2 in
+      let (t, kept, more) = one-more (table (a .text .now) (take (a .n) (a .sizes))) so-far (c .before .before .before .before .loop-test .taken) (c .before .before .read-table .ensures .1 ts u) (c .step .given .1) in
+      (kept .room, omega (arith, kept .arity-fits, kept .long))
 
 loop-holds : tie.Need-loop-holds Inv-loop μ-loop
 loop-holds c = (search needs, search needs, ([], none-taken, none-yet _ _ _, no-tables (c .before .pre .3)))
@@ -43,36 +60,17 @@ returns c =
     fault-there _ so-far (c .before .before .before .before .loop-test .taken) ((c .before .before .read-table .ensures) .1 ts u) (c .enum-told .given .1)
 
 array-share-prefix-scope : tie.Need-array-share-prefix-scope Inv-loop μ-loop
-array-share-prefix-scope c =
-    let a = c .before .before .before .before .before .before .before .before .before .args in
-    let l = c .before .before .before .before .before .before .before .loop in
-    let (ts, u, so-far, run) = l .inv .2 in
-    let (t, kept, more) = one-more (table (a .text .now) (take (a .n) (a .sizes))) so-far (c .before .before .before .before .before .before .loop-test .taken) ((c .before .before .before .before .read-table .ensures) .1 ts u) (c .before .before .step .given .1) in
-    omega (arith, kept .arity-fits, kept .long)
+array-share-prefix-scope c = table-fits (c .before .before) .1
 
 slice-aggregate-add-table : tie.Need-slice-aggregate-add-table Inv-loop μ-loop
-slice-aggregate-add-table c =
-    let a = c .before .before .before .before .before .before .before .before .before .before .args in
-    let l = c .before .before .before .before .before .before .before .before .loop in
-    let (ts, u, so-far, run) = l .inv .2 in
-    let (t, kept, more) = one-more (table (a .text .now) (take (a .n) (a .sizes))) so-far (c .before .before .before .before .before .before .before .loop-test .taken) ((c .before .before .before .before .before .read-table .ensures) .1 ts u) (c .before .before .before .step .given .1) in
-    sym (length-take-le (c .before .before .before .before .before .read-table .result .arity) (c .before .before .before .before .before .read-table .result .scope) (omega (arith, kept .arity-fits, kept .long)))
+slice-aggregate-add-table c = sym (length-take-le (read (c .before .before .before) .arity) (read (c .before .before .before) .scope) (table-fits (c .before .before .before) .1))
 
 array-share-prefix-cells : tie.Need-array-share-prefix-cells Inv-loop μ-loop
-array-share-prefix-cells c =
-    let a = c .before .before .before .before .before .before .before .before .before .before .args in
-    let l = c .before .before .before .before .before .before .before .before .loop in
-    let (ts, u, so-far, run) = l .inv .2 in
-    let (t, kept, more) = one-more (table (a .text .now) (take (a .n) (a .sizes))) so-far (c .before .before .before .before .before .before .before .loop-test .taken) ((c .before .before .before .before .before .read-table .ensures) .1 ts u) (c .before .before .before .step .given .1) in
-    omega (arith, kept .room)
+array-share-prefix-cells c = omega (arith, table-fits (c .before .before .before) .0)
 
 slice-aggregate-add-table-2 : tie.Need-slice-aggregate-add-table-2 Inv-loop μ-loop
 slice-aggregate-add-table-2 c =
-    let a = c .before .before .before .before .before .before .before .before .before .before .before .args in
-    let l = c .before .before .before .before .before .before .before .before .before .loop in
-    let (ts, u, so-far, run) = l .inv .2 in
-    let (t, kept, more) = one-more (table (a .text .now) (take (a .n) (a .sizes))) so-far (c .before .before .before .before .before .before .before .before .loop-test .taken) ((c .before .before .before .before .before .before .read-table .ensures) .1 ts u) (c .before .before .before .before .step .given .1) in
-    sym (length-take-le (c .before .before .before .before .before .before .read-table .result .filled) _ (omega (arith, kept .room, (c .before .before .before .before .before .before .read-table .ensures) .0)))
+    sym (length-take-le (read (c .before .before .before .before) .filled) _ (omega (arith, table-fits (c .before .before .before .before) .0, c .before .before .before .before .before .before .read-table .ensures .0)))
 
 add-table-requires : tie.Need-add-table-requires Inv-loop μ-loop
 add-table-requires c κs =
@@ -80,20 +78,10 @@ add-table-requires c κs =
     run-reached run
 
 add-used : tie.Need-add-used Inv-loop μ-loop
-add-used c =
-    let a = c .before .before .before .before .before .before .before .before .before .before .before .before .before .args in
-    let l = c .before .before .before .before .before .before .before .before .before .before .before .loop in
-    let (ts, u, so-far, run) = l .inv .2 in
-    let (t, kept, more) = one-more (table (a .text .now) (take (a .n) (a .sizes))) so-far (c .before .before .before .before .before .before .before .before .before .before .loop-test .taken) ((c .before .before .before .before .before .before .before .before .read-table .ensures) .1 ts u) (c .before .before .before .before .before .before .step .given .1) in
-    omega (arith, kept .room)
+add-used c = omega (arith, table-fits (c .before .before .before .before .before .before) .0)
 
 add-used-2 : tie.Need-add-used-2 Inv-loop μ-loop
-add-used-2 c =
-    let a = c .before .before .before .before .before .before .before .before .before .before .before .before .before .args in
-    let l = c .before .before .before .before .before .before .before .before .before .before .before .loop in
-    let (ts, u, so-far, run) = l .inv .2 in
-    let (t, kept, more) = one-more (table (a .text .now) (take (a .n) (a .sizes))) so-far (c .before .before .before .before .before .before .before .before .before .before .loop-test .taken) ((c .before .before .before .before .before .before .before .before .read-table .ensures) .1 ts u) (c .before .before .before .before .before .before .step .given .1) in
-    omega (arith, kept .room)
+add-used-2 c = omega (arith, table-fits (c .before .before .before .before .before .before) .0)
 
 add-k : tie.Need-add-k Inv-loop μ-loop
 add-k c = search needs
