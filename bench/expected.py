@@ -2,7 +2,7 @@
 """Runs the programs `rota` and `replay` on the instances and compares with their answers.
 
     rt check rota replay                 builds target/bin/rota and target/bin/replay
-    python3 bench/expected.py [FOLDER]   a line for every NAME.wcsp and NAME.script of the folder
+    python3 bench/expected.py [FOLDER]   a line for every NAME.wcsp and NAME.script of bench/instances, or of another folder
 
 NAME.wcsp.expected is what `rota` writes. NAME.script.expected is every line that `replay` writes or, where it has fewer
 lines, the answer of the script's last `solve` as `rota` writes it.
@@ -15,7 +15,7 @@ import sys
 
 REPOSITORY = pathlib.Path(__file__).resolve().parent.parent
 PROGRAMS = REPOSITORY / "target" / "bin"
-INSTANCES = REPOSITORY.parent / "shared" / "instances"
+INSTANCES = REPOSITORY / "bench" / "instances"
 
 
 def answer(program, file):

@@ -2,8 +2,8 @@
 """Times the program `rota` against its unverified twin in Rust, and beside other solvers where they are installed.
 
     rt check rota replay                 builds target/bin/rota and target/bin/replay
-    python3 bench/run.py [FOLDER]        a table for every NAME.wcsp of the folder that has a NAME.wcsp.expected,
-                                         and one for every NAME.script, which only `replay` reads
+    python3 bench/run.py [FOLDER]        a table for every NAME.wcsp of bench/instances, or of another folder, that has a
+                                         NAME.wcsp.expected, and one for every NAME.script, which only `replay` reads
 
 Both programs run as a whole: start, reading, solving, writing. What counts is the processor's time (on an idle machine
 that is the time that passes, since both have one thread), the best of several runs.
@@ -27,7 +27,7 @@ REPOSITORY = pathlib.Path(__file__).resolve().parent.parent
 ROTA = REPOSITORY / "target" / "bin" / "rota"
 REPLAY = REPOSITORY / "target" / "bin" / "replay"
 TWIN = REPOSITORY / "target" / "bench" / "twin"
-INSTANCES = REPOSITORY.parent / "shared" / "instances"
+INSTANCES = REPOSITORY / "bench" / "instances"
 
 BUILD = ["rustc", "--edition=2024", "-Copt-level=3", "-Ccodegen-units=1", "-Ctarget-cpu=x86-64", "--crate-name=twin"]
 COUNTED = ["queens_8", "alloc_16x16x3_0"]
@@ -208,9 +208,9 @@ def document(times, start, counts, scripts, others):
     yield ""
     yield "    rt check rota replay"
     yield "    bench/install-peers.sh"
-    yield "    python3 bench/run.py FOLDER --instructions --write docs/PERFORMANCE.md"
+    yield "    python3 bench/run.py --instructions --write docs/PERFORMANCE.md"
     yield ""
-    yield "`FOLDER` holds the instances, each `NAME.wcsp` with its `NAME.wcsp.expected`."
+    yield "The instances are those of `bench/instances`."
 
 
 def report(times, start, counts, scripts, others):

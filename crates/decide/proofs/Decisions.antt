@@ -7,7 +7,7 @@ use native.Mathlib.Decide.{ℕ-discrete}
 use native.Mathlib.Omega.{arith}
 use borrow.Author.Tests.{le-leb, lt-leb, eq-eqb, ne-eqb}
 use lib.ListN.{length, getD, set, take, length-append, length-set, List·getD-eq-default}
-use lib.Seq.{sets, getD-set-same, getD-set-other, length-take-le}
+use lib.Seq.{sets, getD-set-same, getD-set-other, set-getD, length-take-le}
 use Rattle.meaning.specs.Limits.{valueLimit, variableLimit, decisionLimit}
 use Rattle.meaning.specs.Refusals.{number, first, noSuchVariable, outOfRange, tooManyDecisions, notLeft}
 use Rattle.meaning.specs.Values.{bit, Has, Lacks}
@@ -28,7 +28,7 @@ use Rattle.decide.specs.declared.DecisionAnswer.the-variants as Decision
 use Rattle.filters.specs.Layout.{rulesAt}
 use Rattle.filters.specs.Filter.{LargestIn}
 use Rattle.blocks.specs.Blocks.{block}
-use Rattle.state.specs.Holds.{Holds}
+use Rattle.state.specs.Holds.{Holds, Reached}
 use Rattle.refusals.specs.Numbers.{tableOf}
 use Rattle.state.specs.Promises.{Answers}
 use Rattle.decide.specs.Decisions.{TellsLeft, Tested, Narrowed, decisionNumber}
@@ -38,7 +38,8 @@ use Rattle.state.proofs.Holding.{current}
 use Rattle.values.proofs.One.{alone-is}
 use Rattle.blocks.proofs.Reading.{block-at, block-length}
 use Rattle.filters.proofs.Closing.{empty-within}
-use Rattle.state.proofs.Depths.{first-within, within-first, settled, wide-block, same-within}
+use Rattle.filters.proofs.Sweeping.{toward-start, toward-end}
+use Rattle.state.proofs.Depths.{first-within, within-first, settled, closed-same, wide-block, same-within}
 use Rattle.decide.proofs.Blocks.{lists-decided}
 use Rattle.state.proofs.Reading.{rules-held}
 
@@ -188,11 +189,23 @@ module _ (s : State) (x kept : ℕ) (M : List ℕ) (known : x < s .variables) (f
       let e : L ≡ block (s .lists) (s .depth) (length (w .declared)) = largest-unique most (rw (hold .depth) (current hold)) in
       narrowed-held w d (leaves-proper l) hold (rw e at cut)
 
+-- where the decision removes nothing the lists stay: they are closed already
+pub nothing-removed : {s : State} → Reached s → (x kept : ℕ) {b : List ℕ} → b ≡ block (s .lists) (s .depth) variableLimit → getD b x 0 ≡ kept
+    → LargestIn (rulesAt (s .heads) (s .room) (s .rules)) (set b x kept) b
+nothing-removed {s} (h, w, l, hold) x kept {b} eb same =
+    let p = leaves-proper l in
+    let wide = block (s .lists) (s .depth) variableLimit in
+    let narrow = block (s .lists) (s .depth) (length (w .declared)) in
+    let most : Largest w narrow = rw (hold .depth) (current hold) in
+    let alike = wide-block w p (s .lists) (hold .lists) (s .depth) (omega (arith, hold .depth)) in
+    let shut = closed-same {K = wide} {M = narrow} (same-within wide narrow alike) (same-within narrow wide (λ y. sym (alike y))) (most .closed) in
+    rw (← same, set-getD b x 0, eb, rules-held s w p hold) (toward-end (toward-start (w .rules) wide) shut)
+
 -- the same, as the code comes by it: from a copy of the block, and what is written back
 pub narrows-by : (s : State) (x kept : ℕ) (b M l : List ℕ) → x < s .variables → s .depth < decisionLimit → b ≡ block (s .lists) (s .depth) variableLimit
-    → LargestIn (rulesAt (s .heads) (s .room) (s .rules)) (set b x kept) M → l ≡ sets (s .lists) (variableLimit * (s .depth + 1)) M
+    → l ≡ sets (s .lists) (variableLimit * (s .depth + 1)) M → LargestIn (rulesAt (s .heads) (s .room) (s .rules)) (set b x kept) M
     → Narrowed s x kept (withBlock s l)
-narrows-by s x kept b M l known few eb largest el =
+narrows-by s x kept b M l known few eb el largest =
     rw el (narrows s x kept M known few (rw eb at largest))
 
 -- ---- the answers

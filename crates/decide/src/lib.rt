@@ -39,13 +39,16 @@ pub fn pin(s: State, x: u8, v: u8) -> AfterDecision
     ensures { λ r. ⌜ Answers s (pin x v) (decisionNumber (r .answer)) (r .state) ⌝ }
 {
     let at = x as usize;
-    let value = v as usize;
-    let answer = tested(s.variables, s.depth, &s.lists, at, value);
+    let kept = v as usize;
+    let answer = tested(s.variables, s.depth, &s.lists, at, kept);
     match answer {
-        DecisionAnswer::Accepted => AfterDecision {
-            answer,
-            state: narrowed(s, at, values::only(value)),
-        },
+        DecisionAnswer::Accepted => {
+            let pinned = narrowed(s, at, values::only(kept));
+            AfterDecision {
+                answer,
+                state: pinned,
+            }
+        }
         DecisionAnswer::Refused(_) => AfterDecision { answer, state: s },
     }
 }
@@ -56,14 +59,15 @@ pub fn ban(s: State, x: u8, v: u8) -> AfterDecision
     ensures { λ r. ⌜ Answers s (ban x v) (decisionNumber (r .answer)) (r .state) ⌝ }
 {
     let at = x as usize;
-    let value = v as usize;
-    let answer = tested(s.variables, s.depth, &s.lists, at, value);
+    let dropped = v as usize;
+    let answer = tested(s.variables, s.depth, &s.lists, at, dropped);
     match answer {
         DecisionAnswer::Accepted => {
             let left = list_of(&s.lists, s.depth, at);
+            let banned = narrowed(s, at, values::without(left, dropped));
             AfterDecision {
                 answer,
-                state: narrowed(s, at, values::without(left, value)),
+                state: banned,
             }
         }
         DecisionAnswer::Refused(_) => AfterDecision { answer, state: s },
@@ -90,7 +94,7 @@ fn tested(variables: usize, depth: usize, lists: &[u64; 1056], x: usize, v: usiz
     DecisionAnswer::Refused(Refusal::NotLeft)
 }
 
-// One decision more: x's list becomes `kept`, and the others follow.
+// One decision more: x's list becomes `kept`, and the others follow where that removes something.
 fn narrowed(s: State, x: usize, kept: u64) -> State
     requires { ⌜ Reached s ⌝ }
     requires { ⌜ (x < s .variables) × (s .depth < decisionLimit) ⌝ }
@@ -100,9 +104,12 @@ fn narrowed(s: State, x: usize, kept: u64) -> State
     let depth = t.depth;
     let rules = t.rules;
     let mut left = lists_after(&t.lists, depth);
-    left[x] = kept;
-    let after = settled(&t.heads, &t.room, rules, left);
-    put_lists(&mut t.lists, depth + 1, after);
+    let found = left[x];
+    if found != kept {
+        left[x] = kept;
+        left = settled(&t.heads, &t.room, rules, left);
+    }
+    put_lists(&mut t.lists, depth + 1, left);
     t.depth = depth + 1;
     t
 }
@@ -112,14 +119,14 @@ pub fn take_back(s: State, k: usize) -> AfterCall
     requires { ⌜ Reached s ⌝ }
     ensures { λ r. ⌜ Answers s (takeBack k) (numberOf (r .answer)) (r .state) ⌝ }
 {
-    let mut t = s;
-    let depth = t.depth;
+    let depth = s.depth;
     if depth < k {
         return AfterCall {
             answer: Answer::Refused(Refusal::TooDeep),
-            state: t,
+            state: s,
         };
     }
+    let mut t = s;
     clear_after(&mut t.lists, k);
     t.depth = k;
     AfterCall {

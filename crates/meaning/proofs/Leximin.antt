@@ -77,6 +77,10 @@ pub ≺-iff : (u w : List ℕ) → (u ≺ w) ↔ ((i : ℕ) × SmallerAt u w i)
 
 -- ---- better
 
+-- two profiles of one length: one is better, or their sorted vectors are equal
+pub better-tri : (u w : List ℕ) → length u ≡ length w → Better w u ⊎ ((sorted u ≡ sorted w) ⊎ Better u w)
+better-tri u w e = ≺-tri (sorted u) (sorted w) (omega (arith, sorted-length u, sorted-length w))
+
 pub better-trans : (u v w : List ℕ) → Better v u → Better w v → Better w u
 better-trans u v w = ≺-trans (sorted u) (sorted v) (sorted w)
 
@@ -85,10 +89,6 @@ better-irrefl u = ≺-irrefl (sorted u)
 
 pub better-asym : (u w : List ℕ) → Better w u → ¬ Better u w
 better-asym u w = ≺-asym (sorted u) (sorted w)
-
--- two profiles of one length: one is better, or their sorted vectors are equal
-pub better-tri : (u w : List ℕ) → length u ≡ length w → Better w u ⊎ ((sorted u ≡ sorted w) ⊎ Better u w)
-better-tri u w e = ≺-tri (sorted u) (sorted w) (omega (arith, sorted-length u, sorted-length w))
 
 -- equal sorted vectors are indifferent
 pub tie-not-better : (u w : List ℕ) → sorted u ≡ sorted w → ¬ Better w u

@@ -6,7 +6,7 @@ ghost use Prim.Native.Nat.{_≤_, _<_};
 ghost use lib.ListN.{length, getD, take, set};
 ghost use Rattle.meaning.specs.Limits.{variableLimit, objectiveLimit};
 ghost use Rattle.meaning.specs.Lists.{Closed};
-ghost use Rattle.values.specs.Sets.{Lowest};
+ghost use Rattle.values.specs.Sets.{Lowest, Highest};
 ghost use Rattle.filters.specs.Layout.{rulesAt};
 ghost use Rattle.search.specs.Search.{Net, Given, Searched, Nothing};
 ghost use Rattle.search.specs.Choosing.{FirstOpen, Lows, TellsEmpty, Choosable, Narrowable};
@@ -76,11 +76,19 @@ fn none() -> Rota
     }
 }
 
-// The value that is tried before the others of a set.
-fn next_value(rest: u64) -> usize
-    ensures { λ r. ⌜ Lowest rest r ⌝ }
+// The lowest and the highest value of a set.
+struct Ends {
+    low: usize,
+    high: usize,
+}
+
+fn ends_of(set: u64) -> Ends
+    ensures { λ r. ⌜ Lowest set (r .low) × Highest set (r .high) ⌝ }
 {
-    values::lowest(rest)
+    Ends {
+        low: values::lowest(set),
+        high: values::highest(set),
+    }
 }
 
 // The first rota within narrowed lists. Where no variable is open, each list's only value makes it.
@@ -104,7 +112,8 @@ fn choose<'a>(
     }
     let mut rest = lists[x];
     while rest != 0 {
-        let v = next_value(rest);
+        let ends = ends_of(rest);
+        let v = ends.low;
         let kept = values::only(v);
         let rota = try_value(
             heads,

@@ -22,6 +22,7 @@ pub(crate) fn raise(goals: &[u8], count: usize, floors: &[u8], lists: &mut [u64]
     let mut changed: u64 = 0;
     let mut i = 0;
     while i < count {
+        let next = i + 1;
         let floor = floors[i];
         if 0 < floor {
             let enough = reaching(&tops, count, floor);
@@ -36,7 +37,7 @@ pub(crate) fn raise(goals: &[u8], count: usize, floors: &[u8], lists: &mut [u64]
                 changed |= lift(goals, count, &tops, floor, lists);
             }
         }
-        i += 1;
+        i = next;
     }
     Verdict {
         alive: true,
@@ -46,7 +47,7 @@ pub(crate) fn raise(goals: &[u8], count: usize, floors: &[u8], lists: &mut [u64]
 
 // How many objectives are to reach the threshold at place i.
 fn asked(count: usize, i: usize) -> usize
-    requires { ⌜ i < count ⌝ }
+    requires { ⌜ i ≤ count ⌝ }
     ensures { λ r. ⌜ r ≡ count - i ⌝ }
 {
     count - i

@@ -6,7 +6,7 @@ use Rattle.decide.proofs.pin.Statement.{statement}
 use Rattle.decide.proofs.pin.Tie as tie
 
 tested-requires : tie.Need-tested-requires
-tested-requires c κs = let z = sizes (c .before .before .pre) in (z .depth, z .variables)
+tested-requires c κs = let z = sizes (c .before .before .pre) in search needs
 
 enum-told : tie.Need-enum-told
 enum-told c = search needs

@@ -25,7 +25,7 @@ use Rattle.search.proofs.nodes.narrow.Reads as narrow-reads
 use Rattle.search.proofs.choices.first_open.Reads as first-open-reads
 use Rattle.search.proofs.choices.lows_of.Reads as lows-of-reads
 use Rattle.search.proofs.choices.none.Reads as none-reads
-use Rattle.search.proofs.choices.next_value.Reads as next-value-reads
+use Rattle.search.proofs.choices.ends_of.Reads as ends-of-reads
 use Rattle.values.proofs.only.Reads as only-reads
 use Rattle.values.proofs.without.Reads as without-reads
 use Rattle.search.proofs.choices.+choose+try_value.{statement}
@@ -65,8 +65,8 @@ choose-calls t = (
   first-open-reads.Learnt,
   lows-of-reads.Asked,
   lows-of-reads.Learnt,
-  next-value-reads.Asked,
-  next-value-reads.Learnt,
+  ends-of-reads.Asked,
+  ends-of-reads.Learnt,
   only-reads.Asked,
   only-reads.Learnt,
   try-value-below t,
@@ -126,8 +126,8 @@ choose-loop-holds t c =
     let other = c .if1 .left in
     try-all ready long opens other
 
-choose-next-value-requires : (t : ℕ) → choose-lts.Need-next-value-requires (choose-calls t) (choose-at t) choose.Post choose-Inv-loop choose-μ-loop
-choose-next-value-requires t c κs = search needs
+choose-ends-of-requires : (t : ℕ) → choose-lts.Need-ends-of-requires (choose-calls t) (choose-at t) choose.Post choose-Inv-loop choose-μ-loop
+choose-ends-of-requires t c κs = search needs
 
 choose-only-requires : (t : ℕ) → choose-lts.Need-only-requires (choose-calls t) (choose-at t) choose.Post choose-Inv-loop choose-μ-loop
 choose-only-requires t c κs = search needs
@@ -141,7 +141,7 @@ choose-try-value-requires t c κs =
     let other = c .before .before .before .before .if1 .left in
     let left = c .before .before .before .loop .inv in
     let some = c .before .before .loop-test .taken in
-    let low = c .before .next-value .ensures in
+    let low = c .before .ends-of .ensures .0 in
     let alone = c .only .ensures in
     (omega (arith, start .pre .0, try-less ready long opens other left some low alone), (omega (arith, opens .most, ready .net .variables), try-narrowable ready long opens other left some low alone))
 
@@ -154,7 +154,7 @@ choose-returns-2 t c =
     let other = c .before .before .before .before .before .before .if1 .left in
     let left = c .before .before .before .before .before .loop .inv in
     let some = c .before .before .before .before .loop-test .taken in
-    let low = c .before .before .before .next-value .ensures in
+    let low = c .before .before .before .ends-of .ensures .0 in
     let alone = c .before .before .only .ensures in
     tried-found ready long opens other left some low alone (c .before .try-value .ensures) (c .if2 .taken)
 
@@ -170,7 +170,7 @@ choose-loop-less t c =
     let other = c .before .before .before .before .before .before .before .if1 .left in
     let left = c .before .before .before .before .before .before .loop .inv in
     let some = c .before .before .before .before .before .loop-test .taken in
-    fewer-left ready long opens other left some (c .before .before .before .before .next-value .ensures) (c .before .before .before .only .ensures) (c .without .ensures)
+    fewer-left ready long opens other left some (c .before .before .before .before .ends-of .ensures .0) (c .before .before .before .only .ensures) (c .without .ensures)
 
 choose-loop-again : (t : ℕ) → choose-lts.Need-loop-again (choose-calls t) (choose-at t) choose.Post choose-Inv-loop choose-μ-loop
 choose-loop-again t c =
@@ -181,7 +181,7 @@ choose-loop-again t c =
     let other = c .before .before .before .before .before .before .before .if1 .left in
     let left = c .before .before .before .before .before .before .loop .inv in
     let some = c .before .before .before .before .before .loop-test .taken in
-    let low = c .before .before .before .before .next-value .ensures in
+    let low = c .before .before .before .before .ends-of .ensures .0 in
     let alone = c .before .before .before .only .ensures in
     tried-none ready long opens other left some low alone (c .before .before .try-value .ensures) (c .without .ensures) (c .before .if2 .left)
 
@@ -248,7 +248,7 @@ pub +choose+try-value-spec : {M : Type 1} → statement M
     (choose-mul-rest t)
     (choose-array-read-rest t)
     (choose-loop-holds t)
-    (choose-next-value-requires t)
+    (choose-ends-of-requires t)
     (choose-only-requires t)
     (choose-try-value-requires t)
     (choose-returns-2 t)

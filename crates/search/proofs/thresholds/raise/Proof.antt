@@ -1,6 +1,5 @@
 -- `search::thresholds::raise` meets its contract: the thresholds passed are within reach. Assumes nothing.
 use Prim.Native.Nat.{_-_, _≤_}
-use mathlib.Core.Logic.{⊎-elim}
 use native.Mathlib.Omega.{arith}
 use Rattle.search.proofs.Raising.{Raising, raising-start, raising-aims, raising-dead, raising-on, raising-free, raising-lift, raising-end}
 use borrow.Author.Needs.{needs}
@@ -20,6 +19,9 @@ loop-holds : tie.Need-loop-holds Inv-loop μ-loop
 loop-holds c =
     let a = c .before .before .before .before .before .args in
     (search needs, raising-start (a .goals .now) (a .floors .now) (c .tops-of .result) (a .count) (a .lists .now) (c .tops-of .ensures))
+
+add-next : tie.Need-add-next Inv-loop μ-loop
+add-next c = search needs
 
 shared-slice-read-floor : tie.Need-shared-slice-read-floor Inv-loop μ-loop
 shared-slice-read-floor c = search needs
@@ -54,25 +56,48 @@ lift-requires c κs =
     let at = c .before .before .before .before .before .before .before .before .before .before .loop in
     (raising-aims (start .pre .0) (at .inv .1), at .inv .1 .topped .long)
 
-add-i : tie.Need-add-i Inv-loop μ-loop
-add-i c = search needs
-
+-- the objectives that can reach the threshold must
 loop-less : tie.Need-loop-less Inv-loop μ-loop
 loop-less c = search needs
 
 loop-again : tie.Need-loop-again Inv-loop μ-loop
 loop-again c =
-    let start = c .before .before .before .before .before .before .before .before .before in
-    let at = c .before .before .before .loop in
-    let inside = c .before .before .loop-test .taken in (
+    let lifted = c .before .before in
+    let just = lifted .before .before .before in
+    let counted = just .before .before in
+    let inside = counted .before .before .before .before .before in
+    let at = inside .before in
+    let start = at .before .before .before .before .before .before in (
       search needs,
-      ⊎-elim
-          (λ w. rw (w .11, w .12) (raising-lift (start .pre .0) (start .pre .2) inside (at .inv .1) (omega (arith, w .2 .ensures, w .3 .ensures, w .5 .taken)) (w .8 .ensures)))
-          (⊎-elim
-          (λ w. rw (w .6, w .7) (raising-on (start .pre .0) (start .pre .2) inside (at .inv .1) (omega (arith, w .2 .ensures, w .3 .ensures, w .4 .left))))
-          (λ w. rw (w .1, w .2) (raising-free (start .pre .0) (start .pre .2) inside (at .inv .1) (omega (arith, w .0 .left)))))
-          (c .if1 .came),
+      raising-lift (start .pre .0) (start .pre .2) (inside .loop-test .taken) (at .loop .inv .1)
+          (omega (arith, counted .before .reaching .ensures, counted .asked .ensures, just .if3 .taken)) (lifted .lift .ensures),
     )
+
+-- more can reach it than must
+loop-less-2 : tie.Need-loop-less-2 Inv-loop μ-loop
+loop-less-2 c = search needs
+
+loop-again-2 : tie.Need-loop-again-2 Inv-loop μ-loop
+loop-again-2 c =
+    let counted = c .before .before in
+    let inside = counted .before .before .before .before .before in
+    let at = inside .before in
+    let start = at .before .before .before .before .before .before in (
+      search needs,
+      raising-on (start .pre .0) (start .pre .2) (inside .loop-test .taken) (at .loop .inv .1)
+          (omega (arith, counted .before .reaching .ensures, counted .asked .ensures, c .before .if2 .left)),
+    )
+
+-- every value reaches it
+loop-less-3 : tie.Need-loop-less-3 Inv-loop μ-loop
+loop-less-3 c = search needs
+
+loop-again-3 : tie.Need-loop-again-3 Inv-loop μ-loop
+loop-again-3 c =
+    let inside = c .before .before in
+    let at = inside .before in
+    let start = at .before .before .before .before .before .before in
+    (search needs, raising-free (start .pre .0) (start .pre .2) (inside .loop-test .taken) (at .loop .inv .1) (omega (arith, c .if1 .left)))
 
 same-length-2 : tie.Need-same-length-2 Inv-loop μ-loop
 same-length-2 c = c .before .loop .inv .1 .long
@@ -90,6 +115,7 @@ raise-spec =
     μ-loop
     tops-of-requires
     loop-holds
+    add-next
     shared-slice-read-floor
     slice-aggregate-reaching
     reaching-requires
@@ -98,8 +124,11 @@ raise-spec =
     returns
     slice-aggregate-lift
     lift-requires
-    add-i
     loop-less
     loop-again
+    loop-less-2
+    loop-again-2
+    loop-less-3
+    loop-again-3
     same-length-2
     returns-2)
