@@ -1,5 +1,7 @@
 pub mod Answering
+pub mod Lending
 pub mod Lent
 pub mod Numbers
+pub mod Parties
 pub mod Runs
 pub mod Unique

@@ -4,10 +4,11 @@ ghost use lib.ListN.{length};
 ghost use Rattle.state.specs.Holds.{Reached};
 use crate::arguments::last_number;
 use crate::arguments::last_pair;
-use crate::desk::Desk;
-use crate::desk::stopped;
-use crate::desk::with_state;
 use crate::digits::MOST;
+use crate::keeping::Desk;
+use crate::keeping::stopped;
+use crate::keeping::with_state;
+use crate::lending;
 use crate::saying;
 
 // `pin VARIABLE VALUE`
@@ -19,7 +20,7 @@ pub(crate) fn pin(desk: Desk, line: &[u8], at: usize) -> Desk
     if !pair.fits {
         return stopped(desk);
     }
-    let after = decide::pin(desk.state, pair.variable, pair.value);
+    let after = lending::pin(desk.state, pair.variable, pair.value);
     let answer = after.answer;
     saying::decided(answer);
     with_state(desk, after.state)
@@ -34,7 +35,7 @@ pub(crate) fn ban(desk: Desk, line: &[u8], at: usize) -> Desk
     if !pair.fits {
         return stopped(desk);
     }
-    let after = decide::ban(desk.state, pair.variable, pair.value);
+    let after = lending::ban(desk.state, pair.variable, pair.value);
     let answer = after.answer;
     saying::decided(answer);
     with_state(desk, after.state)
@@ -49,7 +50,7 @@ pub(crate) fn take_back(desk: Desk, line: &[u8], at: usize) -> Desk
     if !depth.fits {
         return stopped(desk);
     }
-    let after = decide::take_back(desk.state, depth.value as usize);
+    let after = lending::take_back(desk.state, depth.value as usize);
     let answer = after.answer;
     saying::answered(answer);
     with_state(desk, after.state)

@@ -3,7 +3,7 @@ ghost use mathlib.Core.Path.{_≡_};
 ghost use Prim.Native.Nat.{_≤_};
 ghost use lib.ListN.{length};
 ghost use Rattle.state.specs.Holds.{Reached};
-use desk::Desk;
+use keeping::Desk;
 use words::is_word;
 use words::next_word;
 
@@ -11,8 +11,9 @@ mod adding;
 mod arguments;
 mod asking;
 mod deciding;
-mod desk;
 mod digits;
+mod keeping;
+mod lending;
 mod lists;
 mod saying;
 mod words;
@@ -50,7 +51,7 @@ fn run_line(desk: Desk, line: &[u8]) -> Desk
     let word = next_word(line, 0);
     let at = word.end;
     if is_word(line, word, b"new") {
-        return desk::renewed(desk, line, at);
+        return keeping::renewed(desk, line, at);
     }
     if is_word(line, word, b"var") {
         return adding::add_variable(desk, line, at);
@@ -92,12 +93,12 @@ fn run_on_network(desk: Desk, line: &[u8]) -> Desk
     if is_word(line, word, b"solve") {
         return asking::solve(desk, line, at);
     }
-    desk::stopped(desk)
+    keeping::stopped(desk)
 }
 
 // Runs a script line by line, to its end or to the first line that is no call.
 fn run(script: &[u8]) {
-    let mut desk = desk::new();
+    let mut desk = keeping::new();
     let mut from = 0;
     while from < script.len() {
         let end = line_end(script, from);

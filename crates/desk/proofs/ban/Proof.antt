@@ -1,4 +1,4 @@
--- `desk::ban` meets its contract: it hands the state lent to `state::ban` (`Lent.antt`'s law). Assumes nothing.
+-- `desk::ban` meets its contract: it hands the state lent to `decide::ban` (`Lent.antt`'s law). Assumes nothing.
 use mathlib.Core.Path.{refl}
 use mathlib.Core.List.{[], _∷_}
 use mir.Syntax.{w8}

@@ -1,4 +1,4 @@
--- `desk::pin` meets its contract: it hands the state lent to `state::pin` (`Lent.antt`'s law). Assumes nothing.
+-- `desk::pin` meets its contract: it hands the state lent to `decide::pin` (`Lent.antt`'s law). Assumes nothing.
 use mathlib.Core.Path.{refl}
 use mathlib.Core.List.{[], _∷_}
 use mir.Syntax.{w8}

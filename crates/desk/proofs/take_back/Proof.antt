@@ -1,4 +1,4 @@
--- `desk::take_back` meets its contract: it hands the state lent to `state::take_back` (`Lent.antt`'s law). Assumes nothing.
+-- `desk::take_back` meets its contract: it hands the state lent to `decide::take_back` (`Lent.antt`'s law). Assumes nothing.
 use mathlib.Core.Path.{refl}
 use mathlib.Core.List.{[], _∷_}
 use mir.Syntax.{w64}

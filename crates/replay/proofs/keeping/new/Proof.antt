@@ -1,8 +1,8 @@
--- `replay::desk::new` meets its contract. Assumes nothing.
+-- `replay::keeping::new` meets its contract. Assumes nothing.
 use borrow.Author.Needs.{needs}
 use Rattle.state.proofs.Runs.{reached-new}
-use Rattle.replay.proofs.desk.new.Statement.{statement}
-use Rattle.replay.proofs.desk.new.Tie as tie
+use Rattle.replay.proofs.keeping.new.Statement.{statement}
+use Rattle.replay.proofs.keeping.new.Tie as tie
 
 new-requires : tie.Need-new-requires
 new-requires c κs = search needs

@@ -1,0 +1,36 @@
+// The state that the program keeps is lent to `desk` for each pin, ban and take-back.
+ghost use Rattle.meaning.specs.Calls.{pin, ban, takeBack};
+ghost use Rattle.state.specs.Holds.{Reached};
+ghost use Rattle.refusals.specs.Numbers.{numberOf};
+ghost use Rattle.state.specs.Promises.{Answers};
+ghost use Rattle.decide.specs.Decisions.{decisionNumber};
+use decide::AfterDecision;
+use state::AfterCall;
+use state::State;
+
+// Keeps the value v of the variable x alone.
+pub(crate) fn pin(mut state: State, x: u8, v: u8) -> AfterDecision
+    requires { ⌜ Reached state ⌝ }
+    ensures { λ r. ⌜ Answers state (pin x v) (decisionNumber (r .answer)) (r .state) ⌝ }
+{
+    let answer = desk::pin(&mut state, x, v);
+    AfterDecision { answer, state }
+}
+
+// Removes the value v of the variable x.
+pub(crate) fn ban(mut state: State, x: u8, v: u8) -> AfterDecision
+    requires { ⌜ Reached state ⌝ }
+    ensures { λ r. ⌜ Answers state (ban x v) (decisionNumber (r .answer)) (r .state) ⌝ }
+{
+    let answer = desk::ban(&mut state, x, v);
+    AfterDecision { answer, state }
+}
+
+// Keeps the first k decisions and drops the later ones.
+pub(crate) fn take_back(mut state: State, k: usize) -> AfterCall
+    requires { ⌜ Reached state ⌝ }
+    ensures { λ r. ⌜ Answers state (takeBack k) (numberOf (r .answer)) (r .state) ⌝ }
+{
+    let answer = desk::take_back(&mut state, k);
+    AfterCall { answer, state }
+}
