@@ -12,7 +12,7 @@ use Rattle.state.specs.Holds.{Reached}
 use Rattle.leximin.specs.Solving.{Solves, Outcome, solvedNumber}
 use Rattle.refusals.proofs.Unique.{same-refusal, not-accepted}
 
-outcome-unique : (w : Standing) (before : List ℕ) (r q : Solved) (after later : List ℕ) → solvedNumber r ≡ solvedNumber q
+pub outcome-unique : (w : Standing) (before : List ℕ) (r q : Solved) (after later : List ℕ) → solvedNumber r ≡ solvedNumber q
     → Outcome w before r after → Outcome w before q later → (r ≡ q) × (after ≡ later)
 outcome-unique w before Found Found after later e p q =
     (refl, p .buffer ∙ ap (λ (c : List ℕ). written c before) (answer-unique (p .answer) (q .answer)) ∙ sym (q .buffer))

@@ -22,3 +22,4 @@ pub mod Proper
 pub mod Histories
 pub mod Steps
 pub mod Answers
+pub mod TakingBack

@@ -8,4 +8,5 @@ pub mod Lists
 pub mod Solutions
 pub mod Calls
 pub mod Histories
+pub mod TakingBack
 pub mod Proper
