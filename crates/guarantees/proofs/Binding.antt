@@ -1,17 +1,15 @@
 -- Document 01's cases P1 to P12 bind the routines, by their contracts alone. Assumes nothing.
-use mathlib.Core.Path.{_≡_, refl, sym, ap, subst, _∙_}
+use mathlib.Core.Path.{_≡_, refl, sym, _∙_}
 use mathlib.Core.Logic.{inr}
 use mathlib.Core.Bool.{Bool, true, false}
-use mathlib.Core.List.{List, [], _∷_, List·Memᴰ}
-use Prim.Native.Nat.{ℕ, _≤_, _<_}
+use mathlib.Core.List.{List, List·Memᴰ}
+use Prim.Native.Nat.{ℕ, _≤_}
 use native.Mathlib.Omega.{arith}
 use borrow.Author.Tests.{le-ltb, lt-leb}
 use lib.Dec.{T}
 use lib.Ieee.Bits.{is-true}
 use lib.ListN.{length, getD}
-use denote.Ref.{RefT, now}
-use Rattle.meaning.specs.Refusals.{Refusal, noObjective, shortBuffer}
-use Rattle.meaning.specs.Order.{sorted, Better, comparable}
+use Rattle.meaning.specs.Order.{Better, comparable}
 use Rattle.meaning.specs.Standing.{Standing}
 use Rattle.meaning.specs.Lists.{Largest}
 use Rattle.meaning.specs.Solutions.{Answer, Inconsistent, written}
@@ -23,22 +21,19 @@ use Rattle.cases.specs.Eight.{eight}
 use Rattle.cases.specs.Table.{Row, better, tie, solves, inconsistent, leaves, After, Solves, Says, rows}
 use Rattle.cases.proofs.Tests.{every, every-at}
 use Rattle.cases.proofs.Table.{all-say}
-use Rattle.profile.specs.Compared.{IsBetter, BetterOf}
-use Rattle.profile.proofs.Unique.{is-better-unique}
+use Rattle.profile.specs.Compared.{IsBetter}
 use Rattle.profile.proofs.Lengths.{comparable-sym}
-use Rattle.state.specs.declared.State.{State}
-use Rattle.state.specs.Holds.{Holds}
-use Rattle.state.specs.Runs.{Run}
 use Rattle.state.proofs.Runs.{run-stands}
-use Rattle.decide.specs.declared.Left.the-variants as Lefts
+use Rattle.decide.specs.declared.Left.the-variants.{Values}
 use Rattle.leximin.specs.declared.Solved.{Solved}
 use Rattle.leximin.specs.declared.Solved.the-variants.{Found, Inconsistent as NoneFound}
 use Rattle.leximin.specs.Solving.{Outcome, solvedNumber}
 use Rattle.leximin.proofs.Unique.{outcome-unique}
+use Rattle.guarantees.specs.Telling.{listOf}
 use Rattle.guarantees.specs.Binding.{KeepsFirst, TakesSecond, SaysSolved, SaysLeft, Binds}
 use Rattle.guarantees.proofs.Telling.{run-tells}
 
--- ---- profiles
+-- ---- profiles, u lent first and w second
 
 module _ (u w : List ℕ) (can : comparable u w ≡ true) where
   keeps-first : ¬ Better w u → KeepsFirst u w
@@ -73,13 +68,15 @@ says-solved calls A answer left e outcome so s before after r run fits told =
     (got .outcome) (outcome w (so .so .1) before)
 
 says-left : (calls : List Call) (L : List ℕ) → After calls (λ w. Largest w L) → SaysLeft calls L
-says-left calls L so s x r run known told =
+says-left calls L so s x r run below told =
     let w = so .stands in
     let is : unknown w x ≡ false = lt-leb (length (w .declared)) x (omega (arith, run-stands w run (so .leaves) .variables)) in
-    run-tells run (so .leaves) .left x r told L (so .so) ∙ rw is
+    let known : listOf w L x ≡ Values (getD L x 0) = rw is in
+    run-tells run (so .leaves) .left x r told L (so .so) ∙ known
 
 -- ---- the table
 
+-- the profiles of a row can be compared
 compares : Row → Bool
 compares (better u w) = comparable u w
 compares (tie u w) = comparable u w
@@ -105,5 +102,6 @@ binds (inconsistent calls) t so =
     says-solved calls Inconsistent NoneFound (λ buffer. buffer) refl (λ w p buffer. record { none = p; buffer = refl }) so
 binds (leaves calls L) t so = says-left calls L so
 
+-- every case of document 01 binds the routines
 pub all-bind : (r : Row) → List·Memᴰ r (rows eight) → Binds r
 all-bind r m = binds r (every-at compares (rows eight) all-compare r m) (all-say r m)

@@ -1,26 +1,21 @@
 -- What values left and solving answer after any run of calls, and after a take-back in it. Assumes nothing.
-use mathlib.Core.Path.{_≡_, refl, sym, ap, _∙_}
+use mathlib.Core.Path.{_≡_, sym, ap, _∙_}
 use mathlib.Core.Bool.{Bool, true, false, cond}
 use mathlib.Core.List.{List, [], _∷_, _++_}
 use Prim.Native.Nat.{ℕ, _≤_, _<_}
 use native.Mathlib.Omega.{arith}
-use lib.ListN.{length}
 use Rattle.meaning.specs.Refusals.{first}
 use Rattle.meaning.specs.Standing.{Standing}
-use Rattle.meaning.specs.Lists.{Largest}
-use Rattle.meaning.specs.Calls.{Call, takeBack, unknown, outstanding, refusal, accepted}
+use Rattle.meaning.specs.Calls.{Call, takeBack, unknown, outstanding, accepted}
 use Rattle.meaning.specs.Histories.{Leaves, call}
-use Rattle.meaning.specs.TakingBack.{making, withObjectives, Stood}
+use Rattle.meaning.specs.TakingBack.{making}
 use Rattle.meaning.proofs.Steps.{objectives-largest}
 use Rattle.meaning.proofs.TakingBack.{takes-back}
-use Rattle.blocks.specs.Blocks.{block}
 use Rattle.refusals.specs.declared.Refusal.the-variants.{NoSuchVariable}
 use Rattle.refusals.proofs.Unique.{same-refusal, not-accepted}
 use Rattle.state.specs.declared.State.{State}
-use Rattle.state.specs.Holds.{Holds}
 use Rattle.state.specs.Promises.{Answers}
-use Rattle.state.specs.Runs.{Run, start, step}
-use Rattle.state.proofs.Holding.{current}
+use Rattle.state.specs.Runs.{Run, step}
 use Rattle.state.proofs.Answering.{after-accepted}
 use Rattle.state.proofs.Runs.{run-stands, run-largest}
 use Rattle.state.proofs.Unique.{holds-unique}
@@ -29,23 +24,24 @@ use Rattle.decide.specs.declared.Left.the-variants.{Values, Refused}
 use Rattle.decide.specs.Decisions.{leftNumber, leftValues}
 use Rattle.desk.specs.DeskRuns.{DeskRun}
 use Rattle.desk.proofs.Runs.{desk-run}
-use Rattle.guarantees.specs.Telling.{listOf, Tells, Restores, TakenBack}
+use Rattle.guarantees.specs.Telling.{Tells, Restores, TakenBack}
 
 -- ---- a run
 
 -- the number and the values fix the answer
-says-left : (unknown : Bool) (m : ℕ) (r : Left) → leftNumber r ≡ cond unknown 1 0 → leftValues r ≡ m → r ≡ cond unknown (Refused NoSuchVariable) (Values m)
-says-left true m (Values n) e f = absurd (omega arith)
-says-left true m (Refused q) e f = ap Refused (same-refusal q NoSuchVariable e)
-says-left false m (Values n) e f = ap Values f
-says-left false m (Refused q) e f = not-accepted q e
+left-is : (unknown : Bool) (m : ℕ) (r : Left) → leftNumber r ≡ cond unknown 1 0 → leftValues r ≡ m → r ≡ cond unknown (Refused NoSuchVariable) (Values m)
+left-is true m (Values n) e f = absurd (omega arith)
+left-is true m (Refused q) e f = ap Refused (same-refusal q NoSuchVariable e)
+left-is false m (Values n) e f = ap Values f
+left-is false m (Refused q) e f = not-accepted q e
 
+-- after any run the values left are the largest lists of what the history leaves, and solving answers as of it
 pub run-tells : {h : List Call} {s : State} {w : Standing} → Run h s → Leaves h w → Tells s w
 unfolding first
 run-tells {h} {w} r l =
     let hold = run-stands w r l in
     record {
-      left = λ x a told L most. let (e, f) = told h w L l hold most in says-left (unknown w x) _ a e f;
+      left = λ x a told L most. let (e, f) = told h w L l hold most in left-is (unknown w x) _ a e f;
       solved = λ before after a solves. solves h w l hold;
     }
 
@@ -61,15 +57,8 @@ module _ {h : List Call} {s t : State} {w : Standing} {number : ℕ} (r : Run h 
   then : Run (takeBack k ∷ h) t
   then = step (takeBack k) number r a
 
-  L : List ℕ
-  L = block (s .lists) (length (w .decisions)) (length (w .declared))
-
-  is-taken : k ≤ outstanding w → refusal w L (takeBack k) ≡ 0
-  is-taken few = takes-back l k .taken few L
-
   then-leaves : k ≤ outstanding w → Leaves (takeBack k ∷ h) (accepted w (takeBack k))
-  unfolding L
-  then-leaves few = rw (after-accepted w L (takeBack k) (is-taken few)) at (call (takeBack k) l (run-largest w r l))
+  then-leaves few = rw (after-accepted w [] (takeBack k) (takes-back l k .taken few [])) at (call (takeBack k) l (run-largest w r l))
 
   restores : k < outstanding w → Restores h w k t
   restores low =
@@ -78,16 +67,16 @@ module _ {h : List Call} {s t : State} {w : Standing} {number : ℕ} (r : Run h 
       record {
         stood = was;
         passed = run-passed (was .later) (making (was .decision)) (rw (was .history) at r);
-        left = λ v earlier x b c now before.
+        left = λ x v earlier b c now before.
             let most = run-largest (was .before) earlier (was .leaves) in
             tells .left x b now _ (objectives-largest (w .objectives) most) ∙ sym (run-tells earlier (was .leaves) .left x c before _ most);
         tells = tells;
       }
 
+  -- and after a take-back, what they were before the first decision that it dropped was made
   pub run-taken-back : TakenBack h s w k number t
-  unfolding L
   run-taken-back = record {
-    taken = λ few. a h w L l (run-stands w r l) (run-largest w r l) .0 ∙ is-taken few;
+    taken = λ few. a h w _ l (run-stands w r l) (run-largest w r l) .0 ∙ takes-back l k .taken few [];
     fewer = restores;
     same = λ e. holds-unique (run-stands w then (rw (takes-back l k .same e) at (then-leaves (omega arith)))) (run-stands w r l);
   }

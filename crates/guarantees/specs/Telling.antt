@@ -21,20 +21,21 @@ use Rattle.leximin.specs.Solving.{Solves, SolvedAs}
 abbrev pub listOf : Standing → List ℕ → ℕ → Left
 listOf w L x = cond (unknown w x) (Refused NoSuchVariable) (Values (getD L x 0))
 
--- What the contracts let be told of the state s is what w asks for: the values left are those of the largest lists, and solving answers as of w.
+-- Whatever the contracts let be told of the state s is right of w: the values left are those of the largest lists, and solving answers as it should.
 pub record Tells (s : State) (w : Standing) : Type 0 where
   pub left : (x : ℕ) (r : Left) → TellsLeft s x r → (L : List ℕ) → Largest w L → r ≡ listOf w L x
   pub solved : (before after : List ℕ) (r : Solved) → Solves s before r after → SolvedAs w before r after
 
--- The history h left w, and a take-back to depth k, below the number outstanding, left the state t. What it tells is what was told before
--- the (k + 1)-th decision was made: of the values left the same answers, of solving those of what stood, but for the objectives.
+-- The history h left w, and then a take-back to depth k, below the number outstanding, left the state t.
 pub record Restores (h : List Call) (w : Standing) (k : ℕ) (t : State) : Type 0 where
   pub stood : Stood h w k
+  -- before the (k + 1)-th decision was made the run passed a state, and what was told of its values left is told of t
   pub passed : (v : State) × Run (stood .earlier) v
-  pub left : (v : State) → Run (stood .earlier) v → (x : ℕ) (r q : Left) → TellsLeft t x r → TellsLeft v x q → r ≡ q
+  pub left : (x : ℕ) (v : State) → Run (stood .earlier) v → (r q : Left) → TellsLeft t x r → TellsLeft v x q → r ≡ q
+  -- all that is told of t is right of what stood then, but for the objectives, which stay
   pub tells : Tells t (withObjectives (stood .before) (w .objectives))
 
--- A run with the history h left the state s and w standing, and then a take-back to depth k answered with the number and left t.
+-- A run with the history h left the state s and w standing; then a take-back to depth k answered with the number and left t.
 pub record TakenBack (h : List Call) (s : State) (w : Standing) (k number : ℕ) (t : State) : Type 0 where
   pub taken : k ≤ outstanding w → number ≡ 0
   pub fewer : k < outstanding w → Restores h w k t
