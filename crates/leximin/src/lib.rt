@@ -37,11 +37,11 @@ pub fn solve(s: State, buffer: &mut [u8]) -> Solved
     if buffer.len() < n {
         return Solved::Refused(Refusal::ShortBuffer);
     }
-    let rota = best_of(s);
-    if !rota.found {
+    let answer = best_of(s);
+    if !answer.found {
         return Solved::Inconsistent;
     }
-    let values = rota.values;
+    let values = answer.values;
     put_values(buffer, values, n);
     Solved::Found
 }
