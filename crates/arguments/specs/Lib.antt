@@ -1,2 +1,3 @@
 -- The definitions that the contracts of `arguments` cite besides those of `meaning`.
 pub mod Checks
+pub mod Promises

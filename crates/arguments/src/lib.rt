@@ -1,12 +1,12 @@
 // What the calls of document 01 test their arguments for.
 ghost use Prim.Native.Nat.{_+_, _≤_};
 ghost use mathlib.Core.Path.{_≡_};
-ghost use lib.Dec.{leb, eqb};
+ghost use lib.Dec.{leb};
 ghost use lib.ListN.{length};
-ghost use Rattle.meaning.specs.Limits.{valueLimit, coefficientLimit, boundLimit};
-ghost use Rattle.meaning.specs.Calls.{some, same, repeats, beyond};
-ghost use Rattle.tuples.specs.Rows.{tuplesIn};
+ghost use Rattle.meaning.specs.Limits.{coefficientLimit};
+ghost use Rattle.meaning.specs.Calls.{some, beyond};
 ghost use Rattle.arguments.specs.Checks.{listedAgain};
+ghost use Rattle.arguments.specs.Promises.{AnyUnknown, AnyLarge, IsNamed, AnyTwice, TupleTwice, BeyondBound, AnyBeyond};
 use tuples::KEYS;
 use tuples::is_listed;
 use tuples::key_of;
@@ -35,21 +35,21 @@ fn any_from(numbers: &[u8], limit: usize) -> bool
 
 // Whether one of the variables isn't among the first `count`.
 pub fn any_unknown(variables: &[u8], count: usize) -> bool
-    ensures { λ r. ⌜ r ≡ some (leb count) (now (variables .entry)) ⌝ }
+    ensures { λ r. ⌜ AnyUnknown (now (variables .entry)) count r ⌝ }
 {
     any_from(variables, count)
 }
 
 // Whether one of the values is out of range.
 pub fn any_large(values: &[u8]) -> bool
-    ensures { λ r. ⌜ r ≡ some (leb valueLimit) (now (values .entry)) ⌝ }
+    ensures { λ r. ⌜ AnyLarge (now (values .entry)) r ⌝ }
 {
     any_from(values, VALUES)
 }
 
 // Whether x is one of the variables.
 pub fn is_named(variables: &[u8], x: usize) -> bool
-    ensures { λ r. ⌜ r ≡ some (eqb x) (now (variables .entry)) ⌝ }
+    ensures { λ r. ⌜ IsNamed (now (variables .entry)) x r ⌝ }
 {
     let mut i = 0;
     while i < variables.len() {
@@ -63,7 +63,7 @@ pub fn is_named(variables: &[u8], x: usize) -> bool
 
 // Whether a variable stands twice.
 pub fn any_twice(variables: &[u8]) -> bool
-    ensures { λ r. ⌜ r ≡ repeats eqb (now (variables .entry)) ⌝ }
+    ensures { λ r. ⌜ AnyTwice (now (variables .entry)) r ⌝ }
 {
     let mut i = 0;
     while i < variables.len() {
@@ -87,7 +87,7 @@ fn listed_again(cells: &[u8], place: usize, arity: usize) -> bool
 // Whether a tuple stands twice, where so many cells make one. It goes from the last tuple to the first, with a mark at the key of each that it passed:
 // only a tuple whose key is marked can stand again.
 pub fn tuple_twice(cells: &[u8], arity: usize) -> bool
-    ensures { λ r. ⌜ r ≡ repeats same (tuplesIn arity (now (cells .entry))) ⌝ }
+    ensures { λ r. ⌜ TupleTwice (now (cells .entry)) arity r ⌝ }
 {
     if arity == 0 {
         return false;
@@ -107,7 +107,7 @@ pub fn tuple_twice(cells: &[u8], arity: usize) -> bool
 
 // Whether a bound is out of range.
 pub fn beyond_bound(bound: i32) -> bool
-    ensures { λ r. ⌜ r ≡ beyond boundLimit bound ⌝ }
+    ensures { λ r. ⌜ BeyondBound bound r ⌝ }
 {
     bound < -BOUND || BOUND < bound
 }
@@ -121,7 +121,7 @@ fn beyond_coefficient(coefficient: i32) -> bool
 
 // Whether one of the coefficients is out of range.
 pub fn any_beyond(coefficients: &[i32]) -> bool
-    ensures { λ r. ⌜ r ≡ some (beyond coefficientLimit) (now (coefficients .entry)) ⌝ }
+    ensures { λ r. ⌜ AnyBeyond (now (coefficients .entry)) r ⌝ }
 {
     let mut i = 0;
     while i < coefficients.len() {

@@ -1,12 +1,16 @@
 -- Any two results that a public contract of this crate allows are the same. Assumes nothing.
 use mathlib.Core.Path.{_≡_, sym, _∙_}
-use mathlib.Core.Bool.{Bool}
 use mathlib.Core.List.{List}
-use Rattle.meaning.specs.Refusals.{Refusal, first}
+use Prim.Native.Nat.{ℕ}
+use lib.IntN.{ℤ}
 use Rattle.refusals.specs.declared.Answer.{Answer}
-use Rattle.refusals.specs.Numbers.{numberOf}
 use Rattle.refusals.proofs.Unique.{answer-unique}
+use Rattle.checks.specs.Tests.{TestsTable, TestsLinear}
 
--- each contract says that the answer's number is that of the first of some tests
-pub tested-unique : (tests : List (Bool × Refusal)) (a b : Answer) → numberOf a ≡ first tests → numberOf b ≡ first tests → a ≡ b
-tested-unique tests a b h k = answer-unique a b (h ∙ sym k)
+module _ (variables depth rules used : ℕ) (scope : List ℕ) (a b : Answer) where
+  pub table-tested-unique : (cells : List ℕ) → TestsTable variables depth rules used scope cells a → TestsTable variables depth rules used scope cells b → a ≡ b
+  table-tested-unique cells h k = answer-unique a b (h ∙ sym k)
+
+  pub linear-tested-unique : (coefficients : List ℤ) (bound : ℤ) → TestsLinear variables depth rules used scope coefficients bound a
+      → TestsLinear variables depth rules used scope coefficients bound b → a ≡ b
+  linear-tested-unique coefficients bound h k = answer-unique a b (h ∙ sym k)

@@ -4,9 +4,7 @@ ghost use mathlib.Core.Bool.{_||_};
 ghost use Prim.Native.Nat.{_+_};
 ghost use lib.Dec.{leb, ltb};
 ghost use Rattle.meaning.specs.Limits.{ruleLimit, roomLimit};
-ghost use Rattle.meaning.specs.Refusals.{first};
-ghost use Rattle.refusals.specs.Numbers.{numberOf};
-ghost use Rattle.checks.specs.Tests.{tableTests, linearTests};
+ghost use Rattle.checks.specs.Tests.{TestsTable, TestsLinear};
 use arguments::any_beyond;
 use arguments::any_large;
 use arguments::any_twice;
@@ -25,7 +23,7 @@ pub fn table_tested(
     scope: &[u8],
     cells: &[u8],
 ) -> Answer
-    ensures { λ r. ⌜ numberOf r ≡ first (tableTests variables depth rules used (now (scope .entry)) (now (cells .entry))) ⌝ }
+    ensures { λ r. ⌜ TestsTable variables depth rules used (now (scope .entry)) (now (cells .entry)) r ⌝ }
 {
     let arity = scope.len();
     if 0 < depth {
@@ -62,7 +60,7 @@ pub fn linear_tested(
     coefficients: &[i32],
     bound: i32,
 ) -> Answer
-    ensures { λ r. ⌜ numberOf r ≡ first (linearTests variables depth rules used (now (scope .entry)) (now (coefficients .entry)) bound) ⌝ }
+    ensures { λ r. ⌜ TestsLinear variables depth rules used (now (scope .entry)) (now (coefficients .entry)) bound r ⌝ }
 {
     let arity = scope.len();
     if 0 < depth {

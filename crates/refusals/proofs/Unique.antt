@@ -10,9 +10,9 @@ use Rattle.refusals.specs.declared.Refusal.{Refusal}
 use Rattle.refusals.specs.declared.Refusal.the-variants.{NoSuchVariable, VariableTwice, WrongLength, OutOfRange, TupleTwice, Full, Malformed, NotLeft, TooManyDecisions, TooDeep, ShortBuffer, NoObjective, Decided}
 use Rattle.refusals.specs.declared.Answer.{Answer}
 use Rattle.refusals.specs.declared.Answer.the-variants.{Accepted, Refused}
-use Rattle.refusals.specs.Numbers.{tableOf, numberOf}
+use Rattle.refusals.specs.Numbers.{tableOf, IsNumberOf, numberOf}
 
-pub number-of-unique : (refusal : Refusal) (r s : ℕ) → r ≡ number (tableOf refusal) → s ≡ number (tableOf refusal) → r ≡ s
+pub number-of-unique : (refusal : Refusal) (r s : ℕ) → IsNumberOf refusal r → IsNumberOf refusal s → r ≡ s
 number-of-unique refusal r s h k = h ∙ sym k
 
 -- ---- answers, by their numbers

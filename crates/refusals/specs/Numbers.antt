@@ -1,4 +1,5 @@
 -- The refusals of the code in document 01's table, and the numbers that answers say.
+use mathlib.Core.Path.{_≡_}
 use Prim.Native.Nat.{ℕ}
 use Rattle.meaning.specs.Refusals as Table
 use Rattle.refusals.specs.declared.Refusal.{Refusal}
@@ -21,6 +22,10 @@ tableOf TooDeep = Table.tooDeep
 tableOf ShortBuffer = Table.shortBuffer
 tableOf NoObjective = Table.noObjective
 tableOf Decided = Table.decided
+
+-- r is the refusal's number in document 01's table
+abbrev pub IsNumberOf : Refusal → ℕ → Type 0
+IsNumberOf refusal r = r ≡ Table.number (tableOf refusal)
 
 -- the number that an answer says, 0 where the call is accepted
 abbrev pub numberOf : Answer → ℕ

@@ -1,7 +1,5 @@
 // Document 01's table of refusals, with their numbers, and the answer of a call.
-ghost use mathlib.Core.Path.{_≡_};
-ghost use Rattle.meaning.specs.Refusals.{number};
-ghost use Rattle.refusals.specs.Numbers.{tableOf};
+ghost use Rattle.refusals.specs.Numbers.{IsNumberOf};
 
 pub enum Refusal {
     NoSuchVariable,
@@ -27,7 +25,7 @@ pub enum Answer {
 
 // Document 01's number of a refusal.
 pub fn number_of(refusal: Refusal) -> u8
-    ensures { λ r. ⌜ r ≡ number (tableOf refusal) ⌝ }
+    ensures { λ r. ⌜ IsNumberOf refusal r ⌝ }
 {
     match refusal {
         Refusal::NoSuchVariable => 1,

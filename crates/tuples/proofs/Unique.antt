@@ -2,17 +2,15 @@
 use mathlib.Core.Path.{_≡_, sym, _∙_}
 use mathlib.Core.Bool.{Bool}
 use mathlib.Core.List.{List}
-use Prim.Native.Nat.{ℕ, _<_}
-use lib.ListN.{length}
-use Rattle.meaning.specs.Calls.{some, same}
-use Rattle.tuples.specs.Keys.{keyLimit, keyFrom}
-use Rattle.tuples.specs.Rows.{tuplesIn}
+use Prim.Native.Nat.{ℕ}
+use Rattle.tuples.specs.Keys.{KeyOf}
+use Rattle.tuples.specs.Rows.{AreSame, IsListed}
 
-pub are-same-unique : (u v : List ℕ) (r s : Bool) → r ≡ same u v → s ≡ same u v → r ≡ s
-are-same-unique u v r s h k = h ∙ sym k
+pub are-same-unique : (t u : List ℕ) (r s : Bool) → AreSame t u r → AreSame t u s → r ≡ s
+are-same-unique t u r s h k = h ∙ sym k
 
-pub is-listed-unique : (t cells : List ℕ) (r s : Bool) → r ≡ some (same t) (tuplesIn (length t) cells) → s ≡ some (same t) (tuplesIn (length t) cells) → r ≡ s
-is-listed-unique t cells r s h k = h ∙ sym k
+pub is-listed-unique : (tuple cells : List ℕ) (r s : Bool) → IsListed tuple cells r → IsListed tuple cells s → r ≡ s
+is-listed-unique tuple cells r s h k = h ∙ sym k
 
-pub key-of-unique : (t : List ℕ) (r s : ℕ) → (r ≡ keyFrom 0 t) × (r < keyLimit) → (s ≡ keyFrom 0 t) × (s < keyLimit) → r ≡ s
-key-of-unique t r s h k = h .0 ∙ sym (k .0)
+pub key-of-unique : (tuple : List ℕ) (r s : ℕ) → KeyOf tuple r → KeyOf tuple s → r ≡ s
+key-of-unique tuple r s h k = h .0 ∙ sym (k .0)

@@ -1,14 +1,16 @@
--- Each contract of `values` allows one result: any two are equal. A result that is a set is a u64, below 2 ^ 64. Assumes nothing.
+-- Any two results that a public contract of this crate allows are the same. A u64 is below 2 ^ 64. Assumes nothing.
 use mathlib.Core.Path.{_≡_, refl, sym, ap, _∙_}
+use mathlib.Core.Logic.{by-cases}
 use mathlib.Core.Bool.{Bool, true, false}
-use Prim.Native.Nat.{ℕ, _^_, _≤_, _<_}
+use Prim.Native.Nat.{ℕ, _^_, _<_}
 use native.Mathlib.Omega.{arith}
 use native.Mathlib.Decide.{ℕ-discrete, decLt}
 use lib.Count.{trailingZeros}
-use Rattle.meaning.specs.Values.{bit, size}
-use Rattle.meaning.proofs.Digits.{ext}
+use Rattle.meaning.specs.Limits.{valueLimit}
+use Rattle.meaning.specs.Values.{bit}
+use Rattle.meaning.proofs.Digits.{ext, ext-all}
 use Rattle.meaning.proofs.Sets.{has-nonzero}
-use Rattle.values.specs.Sets.{Tells, TellsSingle, Alone, Removed, Added, Shared, Less, Lowest, Highest, Dropped, AtOrAbove, First}
+use Rattle.values.specs.Sets.{Tells, TellsSingle, Alone, Removed, Added, Shared, Less, Lowest, Highest, Dropped, Counts, AtOrAbove, First}
 use Rattle.values.proofs.Ends.{lowest-trailing}
 
 -- ---- tests
@@ -29,7 +31,7 @@ single-unique m a b x y = same-answer (λ h l. l h) a b (x .yes) (x .no) (y .yes
 
 -- ---- numbers
 
-pub count-unique : (m a b : ℕ) → a ≡ size m → b ≡ size m → a ≡ b
+pub count-unique : (m a b : ℕ) → Counts m a → Counts m b → a ≡ b
 count-unique m a b x y = x ∙ sym y
 
 -- neither of two numbers is below the other
@@ -59,45 +61,41 @@ highest-unique m a b x y = same-place a b (highest-not-below m a b x y) (highest
 
 -- ---- sets
 
-module _ (a b : ℕ) (ha : a < 2 ^ 64) (hb : b < 2 ^ 64) where
-  -- equal at v, where v is a value, and at every other
-  same-but : (v : ℕ) → (v < 64 → bit a v ≡ bit b v) → ((w : ℕ) → ¬ (w ≡ v) → bit a w ≡ bit b w) → a ≡ b
-  same-but v e f = ext a b ha hb (λ w l. go w l (ℕ-discrete w v))
-    where
-      go : (w : ℕ) → w < 64 → Dec (w ≡ v) → bit a w ≡ bit b w
-      go w l (yes q) = ap (bit a) q ∙ e (omega arith) ∙ ap (bit b) (sym q)
-      go w l (no d) = f w d
-
-  -- equal below v and from v on
-  same-around : (v : ℕ) → ((w : ℕ) → w < v → w < 64 → bit a w ≡ bit b w) → ((w : ℕ) → v ≤ w → bit a w ≡ bit b w) → a ≡ b
-  same-around v e f = ext a b ha hb (λ w l. go w l (decLt w v))
-    where
-      go : (w : ℕ) → w < 64 → Dec (w < v) → bit a w ≡ bit b w
-      go w l (yes k) = e w k l
-      go w l (no k) = f w (omega arith)
+module _ (a b : ℕ) where
+  -- equal at v and at every other
+  same-but : (v : ℕ) → bit a v ≡ bit b v → ((w : ℕ) → ¬ (w ≡ v) → bit a w ≡ bit b w) → a ≡ b
+  same-but v e f = ext-all a b (λ w. by-cases (ℕ-discrete w v) (λ q. ap (bit a) q ∙ e ∙ ap (bit b) (sym q)) (f w))
 
   pub alone-unique : (v : ℕ) → Alone v a → Alone v b → a ≡ b
-  alone-unique v x y = same-but v (λ l. x .here l ∙ sym (y .here l)) (λ w d. x .others w d ∙ sym (y .others w d))
+  alone-unique v x y =
+      by-cases (decLt v valueLimit) (λ l. same-but v (x .here l ∙ sym (y .here l)) (λ w d. x .others w d ∙ sym (y .others w d)))
+      (λ l. x .empty (omega arith) ∙ sym (y .empty (omega arith)))
 
   pub removed-unique : (m v : ℕ) → Removed m v a → Removed m v b → a ≡ b
-  removed-unique m v x y = same-but v (λ l. x .gone ∙ sym (y .gone)) (λ w d. x .kept w d ∙ sym (y .kept w d))
+  removed-unique m v x y = same-but v (x .gone ∙ sym (y .gone)) (λ w d. x .kept w d ∙ sym (y .kept w d))
 
   pub added-unique : (m v : ℕ) → Added m v a → Added m v b → a ≡ b
-  added-unique m v x y = same-but v (λ l. x .here l ∙ sym (y .here l)) (λ w d. x .kept w d ∙ sym (y .kept w d))
+  added-unique m v x y =
+      by-cases (decLt v valueLimit) (λ l. same-but v (x .here l ∙ sym (y .here l)) (λ w d. x .kept w d ∙ sym (y .kept w d)))
+      (λ l. x .same (omega arith) ∙ sym (y .same (omega arith)))
 
   pub shared-unique : (m n : ℕ) → Shared m n a → Shared m n b → a ≡ b
-  shared-unique m n x y = ext a b ha hb (λ w l. x .digit w ∙ sym (y .digit w))
+  shared-unique m n x y = ext-all a b (λ w. x .digit w ∙ sym (y .digit w))
 
   pub less-unique : (m n : ℕ) → Less m n a → Less m n b → a ≡ b
-  less-unique m n x y = ext a b ha hb (λ w l. x .digit w ∙ sym (y .digit w))
+  less-unique m n x y = ext-all a b (λ w. x .digit w ∙ sym (y .digit w))
 
+  -- m is a u64
   pub dropped-unique : (m : ℕ) → m < 2 ^ 64 → Dropped m a → Dropped m b → a ≡ b
   dropped-unique m h x y =
       let l = lowest-trailing m h in
       removed-unique m (trailingZeros 64 m) (x .least (trailingZeros 64 m) l) (y .least (trailingZeros 64 m) l)
 
   pub above-unique : (m v : ℕ) → AtOrAbove m v a → AtOrAbove m v b → a ≡ b
-  above-unique m v x y = same-around v (λ w k l. x .below w k ∙ sym (y .below w k)) (λ w k. x .kept w k ∙ sym (y .kept w k))
+  above-unique m v x y =
+      ext-all a b (λ w. by-cases (decLt w v) (λ k. x .below w k ∙ sym (y .below w k)) (λ k. x .kept w (omega arith) ∙ sym (y .kept w (omega arith))))
 
-  pub first-unique : (s : ℕ) → First s a → First s b → a ≡ b
-  first-unique s x y = same-around s (λ w k l. x .here w k l ∙ sym (y .here w k l)) (λ w k. x .none w k ∙ sym (y .none w k))
+  -- a and b are each a u64
+  pub first-unique : a < 2 ^ 64 → b < 2 ^ 64 → (s : ℕ) → First s a → First s b → a ≡ b
+  first-unique ha hb s x y =
+      ext a b ha hb (λ w l. by-cases (decLt w s) (λ k. x .here w k l ∙ sym (y .here w k l)) (λ k. x .none w (omega arith) ∙ sym (y .none w (omega arith))))

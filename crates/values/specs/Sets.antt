@@ -63,6 +63,10 @@ pub record Dropped (m r : ℕ) : Type 0 where
   pub fewer : 0 < m → size r + 1 ≡ size m
   pub empty : m ≡ 0 → r ≡ 0
 
+-- r is how many values m has
+abbrev pub Counts : ℕ → ℕ → Type 0
+Counts m r = r ≡ size m
+
 -- the values of m from v on
 pub record AtOrAbove (m v r : ℕ) : Type 0 where
   pub below : (w : ℕ) → w < v → Lacks r w

@@ -1,7 +1,5 @@
 // Sets of the values 0 to 63: the value v is in m where m's binary digit v is 1. No value of 64 or more is in any set.
-ghost use mathlib.Core.Path.{_≡_};
-ghost use Rattle.meaning.specs.Values.{size};
-ghost use Rattle.values.specs.Sets.{Tells, Alone, Removed, Added, Shared, Less, Lowest, Highest, Dropped, AtOrAbove, First, TellsSingle};
+ghost use Rattle.values.specs.Sets.{Tells, Alone, Removed, Added, Shared, Less, Lowest, Highest, Dropped, Counts, AtOrAbove, First, TellsSingle};
 
 // A value is below it. It also stands for "no value".
 pub const VALUES: usize = 64;
@@ -77,7 +75,7 @@ pub fn without_lowest(m: u64) -> u64
 
 // How many values m has.
 pub fn count(m: u64) -> usize
-    ensures { λ r. ⌜ r ≡ size m ⌝ }
+    ensures { λ r. ⌜ Counts m r ⌝ }
 {
     u64::count_ones(m) as usize
 }
