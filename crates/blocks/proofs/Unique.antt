@@ -2,7 +2,7 @@
 use mathlib.Core.Path.{_≡_, sym, _∙_}
 use mathlib.Core.Logic.{_⊎_, inl, inr, ⊎-elim, by-cases}
 use mathlib.Core.List.{List}
-use Prim.Native.Nat.{ℕ, _+_, _*_, _≤_, _<_}
+use Prim.Native.Nat.{ℕ, _≤_, _<_}
 use native.Mathlib.Decide.{ℕ-discrete, decLt}
 use native.Mathlib.Omega.{arith}
 use lib.ListN.{length, getD}
@@ -10,19 +10,18 @@ use lib.Seq.{ext-getD}
 use Rattle.meaning.specs.Limits.{variableLimit}
 use Rattle.meaning.proofs.Digits.{bit-cases, bit-iff, ext-all}
 use Rattle.blocks.specs.Keeping.{Changed, Kept, KeptIn}
-use Rattle.blocks.specs.Blocks.{listAfter, Copied, withBlock, zeroedFrom}
+use Rattle.blocks.specs.Blocks.{ListOf, Copied, PutLists, ClearedAfter}
 
-pub list-of-unique : (l : List ℕ) (k x : ℕ) (r s : ℕ) → r ≡ listAfter l k x → s ≡ listAfter l k x → r ≡ s
+pub list-of-unique : (l : List ℕ) (k x : ℕ) (r s : ℕ) → ListOf l k x r → ListOf l k x s → r ≡ s
 list-of-unique l k x r s h e = h ∙ sym e
 
 pub lists-after-unique : (l : List ℕ) (k : ℕ) (r s : List ℕ) → Copied l k r → Copied l k s → r ≡ s
 lists-after-unique l k r s h e = ext-getD 0 r s (h .long ∙ sym (e .long)) (λ x i. h .each x ∙ sym (e .each x))
 
-pub put-lists-unique : (l : List ℕ) (k : ℕ) (left after later : List ℕ) → after ≡ withBlock l k left → later ≡ withBlock l k left → after ≡ later
+pub put-lists-unique : (l : List ℕ) (k : ℕ) (left after later : List ℕ) → PutLists l k left after → PutLists l k left later → after ≡ later
 put-lists-unique l k left after later h e = h ∙ sym e
 
-pub clear-after-unique : (l : List ℕ) (k : ℕ) (after later : List ℕ) → after ≡ zeroedFrom l (variableLimit * k + variableLimit) → later ≡ zeroedFrom l (variableLimit * k + variableLimit)
-    → after ≡ later
+pub clear-after-unique : (l : List ℕ) (k : ℕ) (after later : List ℕ) → ClearedAfter l k after → ClearedAfter l k later → after ≡ later
 clear-after-unique l k after later h e = h ∙ sym e
 
 -- ---- keeping a part of a list

@@ -19,6 +19,10 @@ blockPlaces = variableLimit * (decisionLimit + 1)
 abbrev pub listAfter : List ℕ → ℕ → ℕ → ℕ
 listAfter lists k x = cond (leb k decisionLimit) (getD (block lists k variableLimit) x 0) 0
 
+-- r is that list
+abbrev pub ListOf : List ℕ → ℕ → ℕ → ℕ → Type 0
+ListOf lists k x r = r ≡ listAfter lists k x
+
 -- r has the lists after k decisions
 pub record Copied (lists : List ℕ) (k : ℕ) (r : List ℕ) : Type 0 where
   pub long : length r ≡ variableLimit
@@ -28,6 +32,14 @@ pub record Copied (lists : List ℕ) (k : ℕ) (r : List ℕ) : Type 0 where
 abbrev pub withBlock : List ℕ → ℕ → List ℕ → List ℕ
 withBlock lists k left = cond (leb k decisionLimit) (sets lists (variableLimit * k) left) lists
 
+-- `after` are the lists with `left` after k decisions, and all else as it was
+abbrev pub PutLists : List ℕ → ℕ → List ℕ → List ℕ → Type 0
+PutLists lists k left after = after ≡ withBlock lists k left
+
 -- the lists with zeros from a place on
 abbrev pub zeroedFrom : List ℕ → ℕ → List ℕ
 zeroedFrom lists i = sets lists i (replicate (blockPlaces - i) 0)
+
+-- `after` are the lists with those after more than k decisions empty, and all else as it was
+abbrev pub ClearedAfter : List ℕ → ℕ → List ℕ → Type 0
+ClearedAfter lists k after = after ≡ zeroedFrom lists (variableLimit * k + variableLimit)

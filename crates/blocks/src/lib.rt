@@ -1,13 +1,10 @@
 // The 33 blocks of lists that a state keeps: block k holds the values left to each variable after k decisions.
-ghost use mathlib.Core.Path.{_≡_};
-ghost use Prim.Native.Nat.{_+_, _*_};
-ghost use Rattle.meaning.specs.Limits.{variableLimit};
 ghost use Rattle.blocks.specs.Keeping.{KeptIn};
-ghost use Rattle.blocks.specs.Blocks.{listAfter, Copied, withBlock, zeroedFrom};
+ghost use Rattle.blocks.specs.Blocks.{ListOf, Copied, PutLists, ClearedAfter};
 
 // The list of the variable x after k decisions; 0 where there is no such place.
 pub fn list_of(lists: &[u64; 1056], k: usize, x: usize) -> u64
-    ensures { λ r. ⌜ r ≡ listAfter (now (lists .entry)) k x ⌝ }
+    ensures { λ r. ⌜ ListOf (now (lists .entry)) k x r ⌝ }
 {
     if 32 < k || 32 <= x {
         return 0;
@@ -30,7 +27,7 @@ pub fn lists_after(lists: &[u64; 1056], k: usize) -> [u64; 32]
 
 // Makes `left` the lists after k decisions, where there is such a block.
 pub fn put_lists(lists: &mut [u64; 1056], k: usize, left: [u64; 32])
-    ensures { λ r. ⌜ now (lists .exit) ≡ withBlock (now (lists .entry)) k left ⌝ }
+    ensures { λ r. ⌜ PutLists (now (lists .entry)) k left (now (lists .exit)) ⌝ }
 {
     if 32 < k {
         return;
@@ -45,7 +42,7 @@ pub fn put_lists(lists: &mut [u64; 1056], k: usize, left: [u64; 32])
 
 // Empties the lists of every depth above k.
 pub fn clear_after(lists: &mut [u64; 1056], k: usize)
-    ensures { λ r. ⌜ now (lists .exit) ≡ zeroedFrom (now (lists .entry)) (variableLimit * k + variableLimit) ⌝ }
+    ensures { λ r. ⌜ ClearedAfter (now (lists .entry)) k (now (lists .exit)) ⌝ }
 {
     if 32 < k {
         return;

@@ -10,7 +10,7 @@ use Rattle.meaning.specs.Rules.{Rule, scopeOf}
 use Rattle.meaning.specs.Lists.{Left, Supported, Closed}
 use Rattle.meaning.specs.Proper.{ProperRule}
 use Rattle.blocks.specs.Keeping.{Changed}
-use Rattle.filters.specs.Layout.{ruleAt}
+use Rattle.filters.specs.Layout.{ruleAt, rulesAt}
 
 -- K is what is left of L once every value without support in r is dropped
 pub record Filtered (r : Rule) (L K : List ℕ) : Type 0 where
@@ -66,3 +66,7 @@ pub record Ready (room : List ℕ) (start size : ℕ) (r : Rule) (L : List ℕ) 
 pub record FiltersBy (heads room : List ℕ) (rules k : ℕ) (L K : List ℕ) (c : ℕ) : Type 0 where
   pub by : k < rules → length L ≡ variableLimit → Filtering (ruleAt heads room k) L K c
   pub none : (rules ≤ k) ⊎ ¬ (length L ≡ variableLimit) → (K ≡ L) × (c ≡ 0)
+
+-- r are the largest lists within those given in which every value has support in each of the rules
+abbrev pub Settles : List ℕ → List ℕ → ℕ → List ℕ → List ℕ → Type 0
+Settles heads room rules lists r = LargestIn (rulesAt heads room rules) lists r

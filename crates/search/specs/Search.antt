@@ -15,6 +15,7 @@ use Rattle.state.specs.declared.State.{State}
 use Rattle.filters.specs.Layout.{rulesAt}
 use Rattle.filters.specs.Held.{RulesOf}
 use Rattle.state.specs.Holds.{Reached}
+use Rattle.search.specs.declared.choices.Rota.{Rota}
 use Rattle.search.specs.Spreading.{Touching}
 
 -- a gives each of n variables a value left to it, meets every rule, and its objectives reach the thresholds y
@@ -39,6 +40,11 @@ pub record Searched (rules : List Rule) (objectives y : List ℕ) (n : ℕ) (L :
   pub blank : Blank n found out
   pub first : found ≡ true → FirstOf (Meets rules objectives y n L) (take n out)
   pub none : found ≡ false → (a : List ℕ) → ¬ Meets rules objectives y n L a
+
+-- r is the first rota within the lists that meets the rules and whose objectives reach the thresholds, or says that there is none
+abbrev pub FirstReaching : List ℕ → List ℕ → ℕ → List ℕ → ℕ → ℕ → List ℕ → List ℕ → Rota → Type 0
+FirstReaching heads room rules goals count n lists floors r =
+    Searched (rulesAt heads room rules) (take count goals) (take count floors) n lists (r .found) (r .values)
 
 -- nothing is found
 abbrev pub Nothing : Bool → List ℕ → Type 0

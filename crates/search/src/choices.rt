@@ -8,7 +8,7 @@ ghost use Rattle.meaning.specs.Limits.{variableLimit, objectiveLimit};
 ghost use Rattle.meaning.specs.Lists.{Closed};
 ghost use Rattle.values.specs.Sets.{Lowest, Highest};
 ghost use Rattle.filters.specs.Layout.{rulesAt};
-ghost use Rattle.search.specs.Search.{Net, Given, Searched, Nothing};
+ghost use Rattle.search.specs.Search.{Net, Given, FirstReaching, Searched, Nothing};
 ghost use Rattle.search.specs.Choosing.{FirstOpen, Lows, TellsEmpty, Choosable, Narrowable};
 use crate::nodes::narrow;
 use crate::spreading::rules_on;
@@ -222,7 +222,7 @@ pub fn first_reaching<'a>(
     floors: [u8; 16],
 ) -> Rota
     requires { ⌜ Given (now heads) (now room) rules (now goals) count n lists ⌝ }
-    ensures { λ r. ⌜ Searched (rulesAt (now (heads .entry)) (now (room .entry)) rules) (take count (now (goals .entry))) (take count floors) n lists (r .found) (r .values) ⌝ }
+    ensures { λ r. ⌜ FirstReaching (now (heads .entry)) (now (room .entry)) rules (now (goals .entry)) count n lists floors r ⌝ }
 {
     let sets = rules_on(heads, room, rules);
     first_within(heads, room, rules, &sets, goals, count, &floors, n, lists)
