@@ -6,9 +6,9 @@ use Rattle.meaning.specs.Calls as Calls
 use Rattle.state.specs.declared.Sort.{Sort}
 use Rattle.state.specs.declared.Sort.the-variants.{Allow, Forbid}
 use Rattle.state.specs.Promises.{sortSaid}
-use Rattle.costs.specs.Costs.{sameSaid, sortBy}
+use Rattle.costs.specs.Costs.{SaysSame, SaysSort}
 
-pub says-same-unique : (default cost : ℕ) (r s : Bool) → r ≡ sameSaid default cost → s ≡ sameSaid default cost → r ≡ s
+pub says-same-unique : (default cost : ℕ) (r s : Bool) → SaysSame default cost r → SaysSame default cost s → r ≡ s
 says-same-unique default cost r s h k = h ∙ sym k
 
 -- the sort that says it
@@ -21,5 +21,5 @@ unfolding said
 said-back Allow = refl
 said-back Forbid = refl
 
-pub sort-by-unique : (default : ℕ) (r s : Sort) → sortSaid r ≡ sortBy default → sortSaid s ≡ sortBy default → r ≡ s
+pub sort-by-unique : (default : ℕ) (r s : Sort) → SaysSort default r → SaysSort default s → r ≡ s
 sort-by-unique default r s h k = sym (said-back r) ∙ ap said (h ∙ sym k) ∙ said-back s

@@ -2,8 +2,9 @@
 ghost use mathlib.Core.List.{_∷_, []};
 ghost use Prim.Native.Nat.{_+_, _≤_, _<_};
 ghost use lib.ListN.{length};
-ghost use Rattle.lines.specs.Lines.{decimal, field, numbers, tooLongLine, inconsistentLine, refusedLine, foundText};
-ghost use Rattle.lines.specs.Writing.{Put, Written};
+ghost use Rattle.lines.specs.Lines.{decimal, field, numbers};
+ghost use Rattle.lines.specs.Writing.{Put};
+ghost use Rattle.lines.specs.Promises.{WritesTooLong, WritesInconsistent, WritesRefused, WritesFound};
 use meaning::OBJECTIVES;
 use meaning::VARIABLES;
 
@@ -69,21 +70,21 @@ fn put_numbers(out: &mut [u8], at: usize, ns: &[u8]) -> usize
 
 // The file has more bytes than the program takes.
 pub fn write_too_long(out: &mut [u8; LINES]) -> usize
-    ensures { λ r. ⌜ Written (now (out .entry)) tooLongLine (now (out .exit)) r ⌝ }
+    ensures { λ r. ⌜ WritesTooLong (now (out .entry)) (now (out .exit)) r ⌝ }
 {
     put_word(out, 0, b"too long\n")
 }
 
 // The network has no solution.
 pub fn write_inconsistent(out: &mut [u8; LINES]) -> usize
-    ensures { λ r. ⌜ Written (now (out .entry)) inconsistentLine (now (out .exit)) r ⌝ }
+    ensures { λ r. ⌜ WritesInconsistent (now (out .entry)) (now (out .exit)) r ⌝ }
 {
     put_word(out, 0, b"inconsistent\n")
 }
 
 // The file was refused: the refusal's number, and the offset.
 pub fn write_refused(number: u8, at: usize, out: &mut [u8; LINES]) -> usize
-    ensures { λ r. ⌜ Written (now (out .entry)) (refusedLine number at) (now (out .exit)) r ⌝ }
+    ensures { λ r. ⌜ WritesRefused number at (now (out .entry)) (now (out .exit)) r ⌝ }
 {
     let mut end = put_word(out, 0, b"refused");
     end = put_field(out, end, number as usize);
@@ -94,7 +95,7 @@ pub fn write_refused(number: u8, at: usize, out: &mut [u8; LINES]) -> usize
 
 // A solution was found: every variable's value, and the objective values upwards. It writes nothing for more than 32 or 16 of them.
 pub fn write_found(values: &[u8], sorted: &[u8], out: &mut [u8; LINES]) -> usize
-    ensures { λ r. ⌜ Written (now (out .entry)) (foundText (now (values .entry)) (now (sorted .entry))) (now (out .exit)) r ⌝ }
+    ensures { λ r. ⌜ WritesFound (now (values .entry)) (now (sorted .entry)) (now (out .entry)) (now (out .exit)) r ⌝ }
 {
     if values.len() > VARIABLES {
         return 0;

@@ -1,3 +1,4 @@
 -- The definitions that the contracts of `reading` cite.
 pub mod Reading
 pub mod Steps
+pub mod Promises

@@ -1,9 +1,5 @@
 // Reading a text left to right: the next number or name, with the tests that it has to pass.
-ghost use mathlib.Core.List.{[], _∷_};
-ghost use lib.Dec.{leb};
-ghost use Rattle.refusals.specs.Numbers.{tableOf};
-ghost use Rattle.reading.specs.Reading.{number, anyNumber, range, name, ended};
-ghost use Rattle.reading.specs.Steps.{ComesTo};
+ghost use Rattle.reading.specs.Promises.{ComesToAnyNumber, ComesToNumberWithin, ComesToNumberBelow, ComesToName, ComesToEnd};
 use refusals::Refusal;
 use text::NameRead;
 use text::NumberRead;
@@ -19,7 +15,7 @@ pub enum Step {
 
 // Any number.
 pub fn any_number(text: &[u8], at: usize) -> Step
-    ensures { λ r. ⌜ ComesTo (number (now (text .entry)) anyNumber at) r ⌝ }
+    ensures { λ r. ⌜ ComesToAnyNumber (now (text .entry)) at r ⌝ }
 {
     let read = read_number(text, at);
     match read {
@@ -41,7 +37,7 @@ pub fn number_within(
     high: usize,
     above: Refusal,
 ) -> Step
-    ensures { λ r. ⌜ ComesTo (number (now (text .entry)) (range low (tableOf below) high (tableOf above)) at) r ⌝ }
+    ensures { λ r. ⌜ ComesToNumberWithin (now (text .entry)) at low below high above r ⌝ }
 {
     let read = read_number(text, at);
     match read {
@@ -65,7 +61,7 @@ pub fn number_within(
 
 // A number below the limit.
 pub fn number_below(text: &[u8], at: usize, limit: usize, above: Refusal) -> Step
-    ensures { λ r. ⌜ ComesTo (number (now (text .entry)) (λ v. (leb limit v, tableOf above) ∷ []) at) r ⌝ }
+    ensures { λ r. ⌜ ComesToNumberBelow (now (text .entry)) at limit above r ⌝ }
 {
     let read = read_number(text, at);
     match read {
@@ -86,7 +82,7 @@ pub fn number_below(text: &[u8], at: usize, limit: usize, above: Refusal) -> Ste
 
 // A name; nothing of it is kept.
 pub fn skip_name(text: &[u8], at: usize) -> Step
-    ensures { λ r. ⌜ ComesTo (name (now (text .entry)) at) r ⌝ }
+    ensures { λ r. ⌜ ComesToName (now (text .entry)) at r ⌝ }
 {
     let read = read_name(text, at);
     match read {
@@ -97,7 +93,7 @@ pub fn skip_name(text: &[u8], at: usize) -> Step
 
 // No token is left.
 pub fn read_end(text: &[u8], at: usize) -> Step
-    ensures { λ r. ⌜ ComesTo (ended (now (text .entry)) at) r ⌝ }
+    ensures { λ r. ⌜ ComesToEnd (now (text .entry)) at r ⌝ }
 {
     let start = skip_blanks(text, at);
     if start != text.len() {

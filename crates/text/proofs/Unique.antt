@@ -1,27 +1,24 @@
--- Each contract of `text` allows one result: any two are equal. Assumes nothing.
+-- Any two results that a public contract of this crate allows are the same. A reader's methods promise of its text and place what `read_number` and
+-- `read_name` promise of theirs. Assumes nothing.
 use mathlib.Core.Path.{_≡_, sym, _∙_}
 use mathlib.Core.List.{List}
 use Prim.Native.Nat.{ℕ}
 use Rattle.text.specs.declared.ByteSort.{ByteSort}
 use Rattle.text.specs.declared.NumberRead.{NumberRead}
 use Rattle.text.specs.declared.NameRead.{NameRead}
-use Rattle.text.specs.Bytes.{sortOf}
-use Rattle.text.specs.Words.{tokenStart}
-use Rattle.text.specs.Tokens.{numberAt, nameAt}
+use Rattle.text.specs.Bytes.{IsSortOf}
+use Rattle.text.specs.Words.{SkipsBlanks}
+use Rattle.text.specs.Tokens.{ReadsNumber, ReadsName}
 
--- both are what the definition says
-same-result : {A : Type 0} (said a b : A) → a ≡ said → b ≡ said → a ≡ b
-same-result said a b x y = x ∙ sym y
-
-pub sort-unique : (byte : ℕ) (a b : ByteSort) → a ≡ sortOf byte → b ≡ sortOf byte → a ≡ b
-sort-unique byte = same-result (sortOf byte)
+pub sort-of-unique : (byte : ℕ) (r s : ByteSort) → IsSortOf byte r → IsSortOf byte s → r ≡ s
+sort-of-unique byte r s h k = h ∙ sym k
 
 module _ (text : List ℕ) (at : ℕ) where
-  pub start-unique : (a b : ℕ) → a ≡ tokenStart text at → b ≡ tokenStart text at → a ≡ b
-  start-unique = same-result (tokenStart text at)
+  pub skip-blanks-unique : (r s : ℕ) → SkipsBlanks text at r → SkipsBlanks text at s → r ≡ s
+  skip-blanks-unique r s h k = h ∙ sym k
 
-  pub number-unique : (a b : NumberRead) → a ≡ numberAt text at → b ≡ numberAt text at → a ≡ b
-  number-unique = same-result (numberAt text at)
+  pub read-number-unique : (r s : NumberRead) → ReadsNumber text at r → ReadsNumber text at s → r ≡ s
+  read-number-unique r s h k = h ∙ sym k
 
-  pub name-unique : (a b : NameRead) → a ≡ nameAt text at → b ≡ nameAt text at → a ≡ b
-  name-unique = same-result (nameAt text at)
+  pub read-name-unique : (r s : NameRead) → ReadsName text at r → ReadsName text at s → r ≡ s
+  read-name-unique r s h k = h ∙ sym k

@@ -1,4 +1,5 @@
 -- The four sorts of bytes in document 01.
+use mathlib.Core.Path.{_≡_}
 use mathlib.Core.Bool.{Bool, true, false, _&&_, _||_, cond}
 use Prim.Native.Nat.{ℕ}
 use lib.Dec.{leb, eqb}
@@ -15,6 +16,10 @@ sortOf b =
     (cond (within 48 57 b) Digit
     (cond (within 33 126 b) Mark
     Bad))
+
+-- r is the byte's sort
+abbrev pub IsSortOf : ℕ → ByteSort → Type 0
+IsSortOf byte r = r ≡ sortOf byte
 
 -- an answer for each sort
 abbrev pub bySort : Bool → Bool → Bool → Bool → ByteSort → Bool

@@ -1,4 +1,5 @@
 -- What a token says: a number, a name, or neither.
+use mathlib.Core.Path.{_≡_}
 use mathlib.Core.Bool.{Bool, true, _&&_, cond}
 use mathlib.Core.List.{List, [], _∷_}
 use Prim.Native.Nat.{ℕ, _+_, _-_, _*_}
@@ -44,3 +45,10 @@ numberAt text at = numberIn (tokenAt text (tokenStart text at)) (tokenStart text
 
 unfoldable pub nameAt : List ℕ → ℕ → NameRead
 nameAt text at = nameIn (tokenAt text (tokenStart text at)) (tokenStart text at)
+
+-- r is what the next token from a place on says as a number, or as a name
+abbrev pub ReadsNumber : List ℕ → ℕ → NumberRead → Type 0
+ReadsNumber text at r = r ≡ numberAt text at
+
+abbrev pub ReadsName : List ℕ → ℕ → NameRead → Type 0
+ReadsName text at r = r ≡ nameAt text at

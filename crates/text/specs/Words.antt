@@ -1,4 +1,5 @@
 -- Where tokens begin and end: a token is a longest run without a blank.
+use mathlib.Core.Path.{_≡_}
 use mathlib.Core.Bool.{Bool, not, cond}
 use mathlib.Core.List.{List, [], _∷_}
 use Prim.Native.Nat.{ℕ, suc, _+_}
@@ -21,6 +22,10 @@ run t = front (λ b. not (isBlank b)) t
 -- where the next token from a place on begins; the text's length where there is none
 unfoldable pub tokenStart : List ℕ → ℕ → ℕ
 tokenStart text at = at + blanks (drop at text)
+
+-- r is that place
+abbrev pub SkipsBlanks : List ℕ → ℕ → ℕ → Type 0
+SkipsBlanks text at r = r ≡ tokenStart text at
 
 -- the token that begins at a place
 unfoldable pub tokenAt : List ℕ → ℕ → List ℕ

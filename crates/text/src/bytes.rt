@@ -1,10 +1,10 @@
 // The four sorts of bytes.
 ghost use mathlib.Core.Path.{_≡_};
-ghost use Rattle.text.specs.Bytes.{sortOf, isBlank, isDigit, isVisible};
+ghost use Rattle.text.specs.Bytes.{IsSortOf, isBlank, isDigit, isVisible};
 use crate::ByteSort;
 
 pub fn sort_of(byte: u8) -> ByteSort
-    ensures { λ r. ⌜ r ≡ sortOf byte ⌝ }
+    ensures { λ r. ⌜ IsSortOf byte r ⌝ }
 {
     match byte {
         9 | 10 | 13 | 32 => ByteSort::Blank,

@@ -1,6 +1,5 @@
 // Reading token by token: a reader carries the lent text together with its place in it.
-ghost use mathlib.Core.Path.{_≡_};
-ghost use Rattle.text.specs.Tokens.{numberAt, nameAt};
+ghost use Rattle.text.specs.Tokens.{ReadsNumber, ReadsName};
 use crate::NameRead;
 use crate::NumberRead;
 use crate::tokens::name_from;
@@ -14,14 +13,14 @@ pub struct Reader<'a> {
 impl<'a> Reader<'a> {
     // The next token, as a number.
     pub fn next_number(self) -> NumberRead
-        ensures { λ r. ⌜ r ≡ numberAt (now (self .entry .text)) (self .entry .at) ⌝ }
+        ensures { λ r. ⌜ ReadsNumber (now (self .entry .text)) (self .entry .at) r ⌝ }
     {
         number_from(self.text, self.at)
     }
 
     // The next token, as a name.
     pub fn next_name(self) -> NameRead
-        ensures { λ r. ⌜ r ≡ nameAt (now (self .entry .text)) (self .entry .at) ⌝ }
+        ensures { λ r. ⌜ ReadsName (now (self .entry .text)) (self .entry .at) r ⌝ }
     {
         name_from(self.text, self.at)
     }
@@ -29,14 +28,14 @@ impl<'a> Reader<'a> {
 
 // The next token from `at` on, as a number.
 pub fn read_number(text: &[u8], at: usize) -> NumberRead
-    ensures { λ r. ⌜ r ≡ numberAt (now (text .entry)) at ⌝ }
+    ensures { λ r. ⌜ ReadsNumber (now (text .entry)) at r ⌝ }
 {
     Reader { text, at }.next_number()
 }
 
 // The next token from `at` on, as a name.
 pub fn read_name(text: &[u8], at: usize) -> NameRead
-    ensures { λ r. ⌜ r ≡ nameAt (now (text .entry)) at ⌝ }
+    ensures { λ r. ⌜ ReadsName (now (text .entry)) at r ⌝ }
 {
     Reader { text, at }.next_name()
 }

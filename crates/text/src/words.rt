@@ -2,12 +2,12 @@
 ghost use mathlib.Core.Path.{_≡_};
 ghost use Prim.Native.Nat.{_+_};
 ghost use lib.ListN.{drop};
-ghost use Rattle.text.specs.Words.{run, tokenStart, tokenAt};
+ghost use Rattle.text.specs.Words.{run, SkipsBlanks, tokenAt};
 use crate::bytes::is_blank;
 
 // Where the next token from `at` on begins; the text's length where there is none.
 pub fn skip_blanks(text: &[u8], at: usize) -> usize
-    ensures { λ r. ⌜ r ≡ tokenStart (now (text .entry)) at ⌝ }
+    ensures { λ r. ⌜ SkipsBlanks (now (text .entry)) at r ⌝ }
 {
     let mut start = at;
     while start < text.len() {
