@@ -1,11 +1,10 @@
 -- Demand 1 for pins, bans, taking back and the values left: two results that a public contract allows are equal. Assumes nothing.
 use mathlib.Core.Path.{_≡_, refl, sym, ap, _∙_}
 use Prim.Native.Nat.{ℕ}
-use Rattle.meaning.specs.Calls.{Call, takeBack}
+use Rattle.meaning.specs.Calls.{Call, pin, ban, takeBack}
 use Rattle.state.specs.declared.State.{State}
 use Rattle.refusals.specs.declared.Answer.{Answer}
 use Rattle.state.specs.Holds.{Reached}
-use Rattle.refusals.specs.Numbers.{numberOf}
 use Rattle.state.specs.Promises.{Answers}
 use Rattle.state.proofs.Holding.{current}
 use Rattle.refusals.proofs.Unique.{same-refusal, not-accepted}
@@ -14,7 +13,7 @@ use Rattle.decide.specs.declared.DecisionAnswer.{DecisionAnswer}
 use Rattle.decide.specs.declared.DecisionAnswer.the-variants as DecisionAnswers
 use Rattle.decide.specs.declared.Left.{Left}
 use Rattle.decide.specs.declared.Left.the-variants as Lefts
-use Rattle.decide.specs.Decisions.{TellsLeft, decisionNumber, leftNumber, leftValues}
+use Rattle.decide.specs.Decisions.{Pins, Bans, TakesBack, TellsLeft, decisionNumber, leftNumber, leftValues}
 
 pub decision-unique : (a b : DecisionAnswer) → decisionNumber a ≡ decisionNumber b → a ≡ b
 decision-unique DecisionAnswers.Accepted DecisionAnswers.Accepted e = refl
@@ -29,11 +28,17 @@ left-unique (Lefts.Refused r) (Lefts.Values n) e f = not-accepted r e
 left-unique (Lefts.Refused r) (Lefts.Refused q) e f = ap Lefts.Refused (same-refusal r q e)
 
 module _ {s : State} (reached : Reached s) where
-  pub decisions-unique : (c : Call) {a b : DecisionAnswer} {t u : State} → Answers s c (decisionNumber a) t → Answers s c (decisionNumber b) u → (a ≡ b) × (t ≡ u)
+  decisions-unique : (c : Call) {a b : DecisionAnswer} {t u : State} → Answers s c (decisionNumber a) t → Answers s c (decisionNumber b) u → (a ≡ b) × (t ≡ u)
   decisions-unique c {a} {b} x y = let (e, f) = call-unique reached c x y in (decision-unique a b e, f)
 
-  pub take-back-unique : (k : ℕ) {a b : Answer} {t u : State} → Answers s (takeBack k) (numberOf a) t → Answers s (takeBack k) (numberOf b) u → (a ≡ b) × (t ≡ u)
-  take-back-unique k = answers-unique reached (takeBack k)
+  pub pin-unique : (x v : ℕ) (a b : DecisionAnswer) {t u : State} → Pins s x v a t → Pins s x v b u → (a ≡ b) × (t ≡ u)
+  pin-unique x v a b = decisions-unique (pin x v)
+
+  pub ban-unique : (x v : ℕ) (a b : DecisionAnswer) {t u : State} → Bans s x v a t → Bans s x v b u → (a ≡ b) × (t ≡ u)
+  ban-unique x v a b = decisions-unique (ban x v)
+
+  pub take-back-unique : (k : ℕ) (a b : Answer) {t u : State} → TakesBack s k a t → TakesBack s k b u → (a ≡ b) × (t ≡ u)
+  take-back-unique k a b = answers-unique reached (takeBack k)
 
   pub values-left-unique : (x : ℕ) (a b : Left) → TellsLeft s x a → TellsLeft s x b → a ≡ b
   values-left-unique x a b p q =

@@ -1,4 +1,4 @@
--- What pins, bans and the question for the values left promise.
+-- What pins, bans, taking back and the question for the values left promise.
 use mathlib.Core.Path.{_≡_}
 use mathlib.Core.List.{List}
 use Prim.Native.Nat.{ℕ, _+_, _*_, _<_}
@@ -9,11 +9,13 @@ use Rattle.meaning.specs.Refusals as Table
 use Rattle.meaning.specs.Refusals.{first}
 use Rattle.meaning.specs.Standing.{Standing, Decision}
 use Rattle.meaning.specs.Lists.{Largest, Cut}
-use Rattle.meaning.specs.Calls.{Call, leftRefusal, decisionTests, decide}
+use Rattle.meaning.specs.Calls.{Call, pin, ban, takeBack, leftRefusal, decisionTests, decide}
 use Rattle.meaning.specs.Histories.{Leaves}
 use Rattle.state.specs.declared.State.{State}
 use Rattle.state.specs.Holds.{Holds}
-use Rattle.refusals.specs.Numbers.{tableOf}
+use Rattle.state.specs.Promises.{Answers}
+use Rattle.refusals.specs.declared.Answer.{Answer}
+use Rattle.refusals.specs.Numbers.{tableOf, numberOf}
 use Rattle.decide.specs.declared.DecisionAnswer.{DecisionAnswer}
 use Rattle.decide.specs.declared.DecisionAnswer.the-variants as DecisionAnswers
 use Rattle.decide.specs.declared.Left.{Left}
@@ -33,6 +35,18 @@ leftNumber (Lefts.Refused r) = Table.number (tableOf r)
 abbrev pub leftValues : Left → ℕ
 leftValues (Values m) = m
 leftValues (Lefts.Refused r) = 0
+
+-- the pin that keeps the value v of the variable x gives the answer and leaves the state t
+abbrev pub Pins : State → ℕ → ℕ → DecisionAnswer → State → Type 0
+Pins s x v answer t = Answers s (pin x v) (decisionNumber answer) t
+
+-- the ban that removes it gives the answer and leaves the state t
+abbrev pub Bans : State → ℕ → ℕ → DecisionAnswer → State → Type 0
+Bans s x v answer t = Answers s (ban x v) (decisionNumber answer) t
+
+-- taking back to depth k gives the answer and leaves the state t
+abbrev pub TakesBack : State → ℕ → Answer → State → Type 0
+TakesBack s k answer t = Answers s (takeBack k) (numberOf answer) t
 
 -- The question for x's values left answers with them, or with the refusal.
 abbrev pub TellsLeft : State → ℕ → Left → Type 0

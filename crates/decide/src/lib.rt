@@ -1,11 +1,8 @@
 // Pins, bans, taking back, and the values left.
 ghost use Prim.Native.Nat.{_<_, _≤_};
 ghost use Rattle.meaning.specs.Limits.{decisionLimit};
-ghost use Rattle.meaning.specs.Calls.{pin, ban, takeBack};
 ghost use Rattle.state.specs.Holds.{Reached};
-ghost use Rattle.refusals.specs.Numbers.{numberOf};
-ghost use Rattle.state.specs.Promises.{Answers};
-ghost use Rattle.decide.specs.Decisions.{Tested, Narrowed, TellsLeft, decisionNumber};
+ghost use Rattle.decide.specs.Decisions.{Pins, Bans, TakesBack, TellsLeft, Tested, Narrowed, decisionNumber};
 use blocks::clear_after;
 use blocks::list_of;
 use blocks::lists_after;
@@ -36,7 +33,7 @@ pub enum Left {
 // Keeps the value v of the variable x alone.
 pub fn pin(s: State, x: u8, v: u8) -> AfterDecision
     requires { ⌜ Reached s ⌝ }
-    ensures { λ r. ⌜ Answers s (pin x v) (decisionNumber (r .answer)) (r .state) ⌝ }
+    ensures { λ r. ⌜ Pins s x v (r .answer) (r .state) ⌝ }
 {
     let at = x as usize;
     let kept = v as usize;
@@ -56,7 +53,7 @@ pub fn pin(s: State, x: u8, v: u8) -> AfterDecision
 // Removes the value v of the variable x.
 pub fn ban(s: State, x: u8, v: u8) -> AfterDecision
     requires { ⌜ Reached s ⌝ }
-    ensures { λ r. ⌜ Answers s (ban x v) (decisionNumber (r .answer)) (r .state) ⌝ }
+    ensures { λ r. ⌜ Bans s x v (r .answer) (r .state) ⌝ }
 {
     let at = x as usize;
     let dropped = v as usize;
@@ -117,7 +114,7 @@ fn narrowed(s: State, x: usize, kept: u64) -> State
 // Keeps the first k decisions and drops the later ones.
 pub fn take_back(s: State, k: usize) -> AfterCall
     requires { ⌜ Reached s ⌝ }
-    ensures { λ r. ⌜ Answers s (takeBack k) (numberOf (r .answer)) (r .state) ⌝ }
+    ensures { λ r. ⌜ TakesBack s k (r .answer) (r .state) ⌝ }
 {
     let depth = s.depth;
     if depth < k {

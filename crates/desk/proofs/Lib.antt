@@ -4,4 +4,3 @@ pub mod Lent
 pub mod Numbers
 pub mod Parties
 pub mod Runs
-pub mod Unique

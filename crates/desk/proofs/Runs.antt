@@ -12,20 +12,19 @@ use Rattle.decide.specs.declared.DecisionAnswer.{DecisionAnswer}
 use Rattle.blocks.specs.Blocks.{block}
 use Rattle.state.specs.Holds.{Holds, Reached, upTo}
 use Rattle.refusals.specs.Numbers.{numberOf}
-use Rattle.state.specs.Promises.{Answers}
-use Rattle.decide.specs.Decisions.{decisionNumber}
+use Rattle.decide.specs.Decisions.{Pins, Bans, TakesBack, decisionNumber}
 use Rattle.state.specs.Runs.{Run, start, step}
 use Rattle.state.proofs.Runs.{run-reached, run-stands, run-largest, run-depths}
 use Rattle.desk.specs.DeskRuns.{DeskRun, new, by-value, lent-pin, lent-ban, lent-take-back}
 
 -- ---- one call more, on the state lent: s at entry, t at exit, and the answer r
-pub pin-runs : {h : List Call} {s t : State} (x v : ℕ) (r : DecisionAnswer) → Run h s → Answers s (pin x v) (decisionNumber r) t → Run (pin x v ∷ h) t
+pub pin-runs : {h : List Call} {s t : State} (x v : ℕ) (r : DecisionAnswer) → Run h s → Pins s x v r t → Run (pin x v ∷ h) t
 pin-runs x v r before promised = step (pin x v) (decisionNumber r) before promised
 
-pub ban-runs : {h : List Call} {s t : State} (x v : ℕ) (r : DecisionAnswer) → Run h s → Answers s (ban x v) (decisionNumber r) t → Run (ban x v ∷ h) t
+pub ban-runs : {h : List Call} {s t : State} (x v : ℕ) (r : DecisionAnswer) → Run h s → Bans s x v r t → Run (ban x v ∷ h) t
 ban-runs x v r before promised = step (ban x v) (decisionNumber r) before promised
 
-pub take-back-runs : {h : List Call} {s t : State} (k : ℕ) (r : Answer) → Run h s → Answers s (takeBack k) (numberOf r) t → Run (takeBack k ∷ h) t
+pub take-back-runs : {h : List Call} {s t : State} (k : ℕ) (r : Answer) → Run h s → TakesBack s k r t → Run (takeBack k ∷ h) t
 take-back-runs k r before promised = step (takeBack k) (numberOf r) before promised
 
 -- ---- every run at the desk is a run, so all that is known of runs is known of it

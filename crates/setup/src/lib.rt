@@ -3,12 +3,9 @@ ghost use mathlib.Core.Path.{_≡_};
 ghost use Prim.Native.Nat.{_≤_};
 ghost use lib.ListN.{length};
 ghost use Rattle.meaning.specs.Limits.{objectiveLimit};
-ghost use Rattle.meaning.specs.Standing.{nothing};
-ghost use Rattle.meaning.specs.Calls.{addVariable, nameObjectives};
 ghost use Rattle.filters.specs.Layout.{padded};
-ghost use Rattle.state.specs.Holds.{Holds, Reached};
-ghost use Rattle.refusals.specs.Numbers.{numberOf};
-ghost use Rattle.state.specs.Promises.{Answers};
+ghost use Rattle.state.specs.Holds.{Reached};
+ghost use Rattle.setup.specs.Promises.{IsNew, AddsVariable, NamesObjectives};
 use arguments::any_unknown;
 use refusals::Answer;
 use refusals::Refusal;
@@ -17,7 +14,7 @@ use state::State;
 
 // The state in which nothing stands.
 pub fn new() -> State
-    ensures { λ r. ⌜ Holds r nothing ⌝ }
+    ensures { λ r. ⌜ IsNew r ⌝ }
 {
     State {
         variables: 0,
@@ -36,7 +33,7 @@ pub fn new() -> State
 // One variable more, with the values whose bits in marks are 1.
 pub fn add_variable(s: State, marks: u64) -> AfterCall
     requires { ⌜ Reached s ⌝ }
-    ensures { λ r. ⌜ Answers s (addVariable marks) (numberOf (r .answer)) (r .state) ⌝ }
+    ensures { λ r. ⌜ AddsVariable s marks (r .answer) (r .state) ⌝ }
 {
     let mut t = s;
     let depth = t.depth;
@@ -69,7 +66,7 @@ fn refused(refusal: Refusal, state: State) -> AfterCall
 // The variables whose values are compared, in this order; any named before are forgotten.
 pub fn name_objectives(s: State, variables: &[u8]) -> AfterCall
     requires { ⌜ Reached s ⌝ }
-    ensures { λ r. ⌜ Answers s (nameObjectives (now (variables .entry))) (numberOf (r .answer)) (r .state) ⌝ }
+    ensures { λ r. ⌜ NamesObjectives s (now (variables .entry)) (r .answer) (r .state) ⌝ }
 {
     let count = variables.len();
     let known = s.variables;

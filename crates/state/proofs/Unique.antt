@@ -3,20 +3,22 @@ use mathlib.Core.Path.{_≡_, sym, ap, _∙_}
 use mathlib.Core.Logic.{inl, inr, by-cases}
 use mathlib.Core.List.{List}
 use Prim.Native.Nat.{ℕ, _+_, _*_, _/_, _%_, _<_}
+use lib.IntN.{ℤ}
 use native.Mathlib.Decide.{decLt, decLe}
 use native.Mathlib.Omega.{arith}
 use lib.ListN.{length, getD}
 use lib.Seq.{ext-getD}
 use Rattle.meaning.specs.Limits.{variableLimit}
 use Rattle.meaning.specs.Standing.{Standing}
-use Rattle.meaning.specs.Calls.{Call}
+use Rattle.meaning.specs.Calls.{Call, addTable, addLinear}
 use Rattle.meaning.proofs.Largest.{largest-unique}
 use Rattle.state.specs.declared.State.{State}
+use Rattle.state.specs.declared.Sort.{Sort}
 use Rattle.refusals.specs.declared.Answer.{Answer}
 use Rattle.state.specs.Holds.{Holds, HoldsLists, Reached}
 use Rattle.refusals.proofs.Unique.{answer-unique}
 use Rattle.refusals.specs.Numbers.{numberOf}
-use Rattle.state.specs.Promises.{Answers}
+use Rattle.state.specs.Promises.{Answers, AddsTable, AddsLinear, sortSaid}
 use Rattle.state.proofs.Holding.{current}
 use Rattle.blocks.proofs.Reading.{block-at}
 
@@ -66,3 +68,11 @@ module _ {s : State} (reached : Reached s) where
   -- the same for the answers that the code gives
   pub answers-unique : (c : Call) {a b : Answer} {t u : State} → Answers s c (numberOf a) t → Answers s c (numberOf b) u → (a ≡ b) × (t ≡ u)
   answers-unique c {a} {b} x y = let (e, f) = call-unique c x y in (answer-unique a b e, f)
+
+  module _ (a b : Answer) {t u : State} (scope : List ℕ) where
+    pub add-table-unique : (sort : Sort) (cells : List ℕ) → AddsTable s sort scope cells a t → AddsTable s sort scope cells b u → (a ≡ b) × (t ≡ u)
+    add-table-unique sort cells = answers-unique (addTable (sortSaid sort) scope cells)
+
+    pub add-linear-unique : (coefficients : List ℤ) (bound : ℤ) → AddsLinear s scope coefficients bound a t → AddsLinear s scope coefficients bound b u
+        → (a ≡ b) × (t ≡ u)
+    add-linear-unique coefficients bound = answers-unique (addLinear scope coefficients bound)

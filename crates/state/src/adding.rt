@@ -1,10 +1,9 @@
 // Adding tables and linear rules.
 ghost use mathlib.Core.Path.{_≡_};
 ghost use Rattle.meaning.specs.Rules.{linear};
-ghost use Rattle.meaning.specs.Calls.{addTable, addLinear, ruleOf};
+ghost use Rattle.meaning.specs.Calls.{ruleOf};
 ghost use Rattle.state.specs.Holds.{Reached};
-ghost use Rattle.refusals.specs.Numbers.{numberOf};
-ghost use Rattle.state.specs.Promises.{Answers, sortSaid};
+ghost use Rattle.state.specs.Promises.{AddsTable, AddsLinear, sortSaid};
 ghost use Rattle.state.specs.Additions.{TableFits, LinearFits, Extends, Followable, Followed, sortNumber};
 use crate::AfterCall;
 use crate::Sort;
@@ -24,7 +23,7 @@ use refusals::Answer;
 // One table more: its variables, and its tuples' values one after the other.
 pub fn add_table(s: State, sort: Sort, scope: &[u8], cells: &[u8]) -> AfterCall
     requires { ⌜ Reached s ⌝ }
-    ensures { λ r. ⌜ Answers s (addTable (sortSaid sort) (now (scope .entry)) (now (cells .entry))) (numberOf (r .answer)) (r .state) ⌝ }
+    ensures { λ r. ⌜ AddsTable s sort (now (scope .entry)) (now (cells .entry)) (r .answer) (r .state) ⌝ }
 {
     let answer = table_tested(s.variables, s.depth, s.rules, s.used, scope, cells);
     match answer {
@@ -76,7 +75,7 @@ fn sort_number(sort: Sort) -> u32
 // One linear rule more: the sum of coefficient times value is at most the bound.
 pub fn add_linear(s: State, scope: &[u8], coefficients: &[i32], bound: i32) -> AfterCall
     requires { ⌜ Reached s ⌝ }
-    ensures { λ r. ⌜ Answers s (addLinear (now (scope .entry)) (now (coefficients .entry)) bound) (numberOf (r .answer)) (r .state) ⌝ }
+    ensures { λ r. ⌜ AddsLinear s (now (scope .entry)) (now (coefficients .entry)) bound (r .answer) (r .state) ⌝ }
 {
     let answer = linear_tested(
         s.variables,

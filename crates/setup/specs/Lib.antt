@@ -1,0 +1,2 @@
+-- The definitions that the contracts of `setup` cite.
+pub mod Promises
