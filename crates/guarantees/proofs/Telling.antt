@@ -10,7 +10,7 @@ use Rattle.meaning.specs.Calls.{Call, takeBack, unknown, outstanding, accepted}
 use Rattle.meaning.specs.Histories.{Leaves, call}
 use Rattle.meaning.specs.TakingBack.{making}
 use Rattle.meaning.proofs.Steps.{objectives-largest}
-use Rattle.meaning.proofs.TakingBack.{takes-back}
+use Rattle.meaning.proofs.TakingBack.{gives-what-stood}
 use Rattle.refusals.specs.declared.Refusal.the-variants.{NoSuchVariable}
 use Rattle.refusals.proofs.Unique.{same-refusal, not-accepted}
 use Rattle.state.specs.declared.State.{State}
@@ -58,11 +58,11 @@ module _ {h : List Call} {s t : State} {w : Standing} {number : ℕ} (r : Run h 
   then = step (takeBack k) number r a
 
   then-leaves : k ≤ outstanding w → Leaves (takeBack k ∷ h) (accepted w (takeBack k))
-  then-leaves few = rw (after-accepted w [] (takeBack k) (takes-back l k .taken few [])) at (call (takeBack k) l (run-largest w r l))
+  then-leaves few = rw (after-accepted w [] (takeBack k) (gives-what-stood l k .taken few [])) at (call (takeBack k) l (run-largest w r l))
 
   restores : k < outstanding w → Restores h w k t
   restores low =
-      let was = takes-back l k .fewer low in
+      let was = gives-what-stood l k .fewer low in
       let tells = run-tells then (rw (was .back) at (then-leaves (omega arith))) in
       record {
         stood = was;
@@ -76,9 +76,9 @@ module _ {h : List Call} {s t : State} {w : Standing} {number : ℕ} (r : Run h 
   -- and after a take-back, what they were before the first decision that it dropped was made
   pub run-taken-back : TakenBack h s w k number t
   run-taken-back = record {
-    taken = λ few. a h w _ l (run-stands w r l) (run-largest w r l) .0 ∙ takes-back l k .taken few [];
+    taken = λ few. a h w _ l (run-stands w r l) (run-largest w r l) .0 ∙ gives-what-stood l k .taken few [];
     fewer = restores;
-    same = λ e. holds-unique (run-stands w then (rw (takes-back l k .same e) at (then-leaves (omega arith)))) (run-stands w r l);
+    same = λ e. holds-unique (run-stands w then (rw (gives-what-stood l k .same e) at (then-leaves (omega arith)))) (run-stands w r l);
   }
 
 -- ---- at the desk

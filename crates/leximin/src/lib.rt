@@ -38,7 +38,8 @@ pub fn solve(s: State, buffer: &mut [u8]) -> Solved
         return Solved::Refused(Refusal::ShortBuffer);
     }
     let answer = best_of(s);
-    if !answer.found {
+    let found = answer.found;
+    if !found {
         return Solved::Inconsistent;
     }
     let values = answer.values;

@@ -15,7 +15,7 @@ use Rattle.meaning.specs.Standing.{Standing, Decision, pinned, banned}
 use Rattle.meaning.specs.Lists.{Largest}
 use Rattle.meaning.specs.Calls.{Call, addVariable, addTable, addLinear, nameObjectives, pin, ban, takeBack, outstanding, tests, refusal, decide, accepted}
 use Rattle.meaning.specs.Histories.{Leaves, none, call}
-use Rattle.meaning.specs.TakingBack.{making, withObjectives, Stood, TakesBack}
+use Rattle.meaning.specs.TakingBack.{making, withObjectives, Stood, GivesWhatStood}
 use Rattle.meaning.proofs.Finding.{finds}
 use Rattle.meaning.proofs.Proper.{passed}
 use Rattle.meaning.proofs.Histories.{leaves-unique}
@@ -144,8 +144,8 @@ module _ {h : List Call} {w : Standing} {k : ℕ} where
 
 -- ---- taking back gives what stood
 
-pub takes-back : {h : List Call} {w : Standing} → Leaves h w → (k : ℕ) → TakesBack h w k
-takes-back {w} l k = record {
+pub gives-what-stood : {h : List Call} {w : Standing} → Leaves h w → (k : ℕ) → GivesWhatStood h w k
+gives-what-stood {w} l k = record {
   taken = λ few L. finds (tests w L (takeBack k)) 0 (inr (le-ltb (outstanding w) k few, refl));
   fewer = stood l k;
   once = stood-once;

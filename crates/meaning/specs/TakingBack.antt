@@ -39,7 +39,7 @@ pub record Stood (h : List Call) (w : Standing) (k : ℕ) : Type 0 where
   pub values : (L : List ℕ) → Largest (accepted w (takeBack k)) L ↔ Largest before L
 
 -- Taking back to depth k, of what the history h leaves: to fewer decisions than are outstanding it gives what stood, and to as many nothing changes.
-pub record TakesBack (h : List Call) (w : Standing) (k : ℕ) : Type 0 where
+pub record GivesWhatStood (h : List Call) (w : Standing) (k : ℕ) : Type 0 where
   pub taken : k ≤ outstanding w → (L : List ℕ) → refusal w L (takeBack k) ≡ 0
   pub fewer : k < outstanding w → Stood h w k
   pub once : (s t : Stood h w k) → s .earlier ≡ t .earlier  -- there is one such part of the history

@@ -2,10 +2,8 @@
 use mathlib.Core.Path.{refl}
 use mathlib.Core.List.{[], _∷_}
 use mir.Syntax.{w8}
-use Rattle.meaning.specs.Calls.{ban}
 use Rattle.state.specs.Holds.{Reached}
-use Rattle.state.specs.Promises.{Answers}
-use Rattle.decide.specs.Decisions.{decisionNumber}
+use Rattle.decide.specs.Decisions.{Bans}
 use Rattle.desk.proofs.Lending.{meets-in}
 use Rattle.desk.proofs.Answering.{decision}
 use Rattle.desk.proofs.ban.Symbol as callee
@@ -17,5 +15,5 @@ use Rattle.replay.proofs.lending.ban.Statement.{statement}
 pub ban-spec : {M : Type 1} → statement M
 unfolding code.routine
 ban-spec 𝓤 H 𝓜 𝓖 𝓡 =
-    meets-in decision (w8 ∷ w8 ∷ []) _ (λ s n. Reached s) (λ s n t a. Answers s (ban (n .0) (n .1 .0)) (decisionNumber a) t)
+    meets-in decision (w8 ∷ w8 ∷ []) _ (λ s n. Reached s) (λ s n t a. Bans s (n .0) (n .1 .0) a t)
     𝓤 H 𝓜 𝓖 𝓡 code.env self.name (code.unfolded 𝓤 H 𝓜 𝓡) callee.routine refl (promised.met 𝓤 H 𝓜 𝓖 𝓡)

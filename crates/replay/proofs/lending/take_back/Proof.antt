@@ -2,10 +2,8 @@
 use mathlib.Core.Path.{refl}
 use mathlib.Core.List.{[], _∷_}
 use mir.Syntax.{w64}
-use Rattle.meaning.specs.Calls.{takeBack}
 use Rattle.state.specs.Holds.{Reached}
-use Rattle.refusals.specs.Numbers.{numberOf}
-use Rattle.state.specs.Promises.{Answers}
+use Rattle.decide.specs.Decisions.{TakesBack}
 use Rattle.desk.proofs.Lending.{meets-in}
 use Rattle.desk.proofs.Answering.{take-back}
 use Rattle.desk.proofs.take_back.Symbol as callee
@@ -17,5 +15,5 @@ use Rattle.replay.proofs.lending.take_back.Statement.{statement}
 pub take-back-spec : {M : Type 1} → statement M
 unfolding code.routine
 take-back-spec 𝓤 H 𝓜 𝓖 𝓡 =
-    meets-in take-back (w64 ∷ []) _ (λ s n. Reached s) (λ s n t a. Answers s (takeBack (n .0)) (numberOf a) t)
+    meets-in take-back (w64 ∷ []) _ (λ s n. Reached s) (λ s n t a. TakesBack s (n .0) a t)
     𝓤 H 𝓜 𝓖 𝓡 code.env self.name (code.unfolded 𝓤 H 𝓜 𝓡) callee.routine refl (promised.met 𝓤 H 𝓜 𝓖 𝓡)
