@@ -4,10 +4,9 @@ use mathlib.Core.List.{List, [], _∷_}
 use lib.Dec.{T, eqb, eqb→eq}
 use Rattle.meaning.specs.Standing.{Standing, nothing}
 use Rattle.meaning.specs.Calls.{Call, refusal, after}
-use Rattle.meaning.specs.Histories.{Leaves, none, call}
+use Rattle.meaning.specs.Histories.{Leaves, none, call, AllAccepted}
 use Rattle.meaning.proofs.Tests.{and-left, and-right}
 use Rattle.meaning.proofs.Proper.{leaves-proper}
-use Rattle.cases.specs.Table.{AllAccepted}
 use Rattle.cases.proofs.Settled.{left, settled, settled-largest}
 
 -- histories have their latest call first

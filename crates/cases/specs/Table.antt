@@ -10,8 +10,8 @@ use Rattle.meaning.specs.Order.{sorted, Better}
 use Rattle.meaning.specs.Standing.{Standing}
 use Rattle.meaning.specs.Lists.{Largest}
 use Rattle.meaning.specs.Solutions.{Answer, Inconsistent}
-use Rattle.meaning.specs.Calls.{Call, addVariable, addTable, addLinear, nameObjectives, pin, ban, takeBack, allow, forbid, refusal, solveRefusal}
-use Rattle.meaning.specs.Histories.{Leaves}
+use Rattle.meaning.specs.Calls.{Call, addVariable, addTable, addLinear, nameObjectives, pin, ban, takeBack, allow, forbid, solveRefusal}
+use Rattle.meaning.specs.Histories.{Leaves, AllAccepted}
 use Rattle.cases.specs.Eight.{eight}
 
 -- What a row says. Calls are oldest first, on a new state; an assignment and lists have a place for each variable.
@@ -23,18 +23,6 @@ pub data Row : Type 0 where
   leaves : (calls : List Call) (lists : List ℕ) → Row
 
 -- ---- a row is so
-
--- the call c is accepted after the history h, its latest call first
-pub record Accepted (h : List Call) (c : Call) : Type 0 where
-  pub stands : Standing
-  pub lists : List ℕ
-  pub leaves : Leaves h stands
-  pub largest : Largest stands lists
-  pub passes : refusal stands lists c ≡ 0
-
-abbrev pub AllAccepted : List Call → Type 0
-AllAccepted [] = Unit
-AllAccepted (c ∷ h) = AllAccepted h × Accepted h c
 
 -- no call is refused, and P is so of what the calls leave standing
 pub record After (calls : List Call) (P : Standing → Type 0) : Type 0 where

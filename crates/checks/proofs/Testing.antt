@@ -6,7 +6,7 @@ use mathlib.Core.List.{List}
 use Prim.Native.Nat.{ℕ, _+_, _-_, _*_, _%_, _≤_, _<_}
 use native.Mathlib.Decide.{decLt}
 use native.Mathlib.Omega.{arith}
-use borrow.Author.Tests.{lt-ltb, le-ltb, le-leb, lt-leb, eq-eqb, ne-eqb}
+use borrow.Author.Tests.{lt-ltb, le-ltb, le-leb, lt-leb, eq-eqb}
 use lib.Dec.{leb, ltb, eqb}
 use lib.IntN.{ℤ}
 use lib.ListN.{length}
@@ -14,6 +14,8 @@ use Rattle.meaning.specs.Limits.{valueLimit, ruleLimit, roomLimit, arityLimit, 
 use Rattle.meaning.specs.Refusals.{Refusal, number, first, decided, wrongLength, noSuchVariable, variableTwice, outOfRange, tupleTwice, full}
 use Rattle.meaning.specs.Order.{outside}
 use Rattle.meaning.specs.Calls.{some, same, repeats, beyond}
+use Rattle.meaning.proofs.Tests.{near-both}
+use Rattle.meaning.proofs.Proper.{not-outside}
 use Rattle.meaning.proofs.Finding.{Finds, finds}
 use Rattle.tuples.specs.Rows.{tuplesIn}
 use Rattle.checks.specs.Tests.{overfull, tableTests, linearTests}
@@ -30,7 +32,7 @@ pub wrong-other : (k n : ℕ) (b : Bool) → b ≡ true → (outside k n || b) �
 wrong-other k n b e = rw (e, or-true (outside k n))
 
 pub right-length : (k n : ℕ) (b : Bool) → 0 < n → n ≤ k → b ≡ false → (outside k n || b) ≡ false
-right-length k n b h l e = rw (ne-eqb n 0 (λ z. omega arith), le-ltb k n l, e)
+right-length k n b h l e = near-both (not-outside k n h l) e
 
 -- a linear rule's numbers, as the code counts them
 pub twice-and-one : (k u n : ℕ) {b : Bool} → overfull k u (n + (n + 1)) ≡ b → overfull k u (2 * n + 1) ≡ b

@@ -1,6 +1,7 @@
 pub mod Tests
 pub mod Searching
 pub mod Finding
+pub mod Growing
 pub mod Digits
 pub mod Sizes
 pub mod Sets

@@ -7,7 +7,7 @@ use mathlib.Core.List.{List, [], _∷_, _++_, List·Memᴰ, List·Memᴰ·not-ni
 use Prim.Native.Nat.{ℕ, zero, suc, _+_, _*_, _/_, _%_, _≤_, _<_}
 use native.Mathlib.Nat.{suc-mul, div-mul-le-self}
 use native.Mathlib.Omega.{arith}
-use borrow.Author.Tests.{ltb-false, leb-false, eqb-true, eqb-false, not-false, eq-eqb}
+use borrow.Author.Tests.{ltb-false, leb-false, eqb-true, eqb-false, not-false, eq-eqb, ne-eqb, le-ltb}
 use lib.Dec.{leb, ltb, eqb}
 use lib.IntN.{ℤ, pos, negsuc}
 use lib.ListN.{length, take, drop, length-append, length-take, length-drop, take-append-drop}
@@ -17,10 +17,10 @@ use Rattle.meaning.specs.Refusals.{Refusal, number, first}
 use Rattle.meaning.specs.Order.{outside}
 use Rattle.meaning.specs.Rules.{Rule, linear, room}
 use Rattle.meaning.specs.Standing.{Standing, Decision, pinned, banned, nothing}
-use Rattle.meaning.specs.Calls.{Sort, allow, forbid, Call, addVariable, addTable, addLinear, nameObjectives, pin, ban, takeBack, some, same, repeats, beyond, rows, tuplesOf, held, ruleOf, unknown, overfull, tests, refusal, withRule, withDecisions, accepted, after}
+use Rattle.meaning.specs.Calls.{Sort, allow, forbid, Call, addVariable, addTable, addLinear, nameObjectives, pin, ban, takeBack, some, same, repeats, beyond, rows, tuplesOf, held, tableOf, ruleOf, unknown, overfull, tests, refusal, withRule, withDecisions, accepted, after}
 use Rattle.meaning.specs.Histories.{Leaves, none, call}
 use Rattle.meaning.specs.Proper.{Distinct, ProperTuples, Around, ProperRule, Proper}
-use Rattle.meaning.proofs.Tests.{or-no}
+use Rattle.meaning.proofs.Tests.{or-no, near-both}
 
 -- ---- an accepted call has passed every test
 
@@ -80,6 +80,9 @@ outside-no k n e =
     let h = or-no (eqb n 0) (ltb k n) e in
     let a = eqb-false n 0 (h .0) in
     (omega arith, ltb-false k n (h .1))
+
+pub not-outside : (k n : ℕ) → 0 < n → n ≤ k → outside k n ≡ false
+not-outside k n h l = near-both (ne-eqb n 0 (λ z. omega arith)) (le-ltb k n l)
 
 pub beyond-no : (k : ℕ) (z : ℤ) → beyond k z ≡ false → Around k z
 beyond-no k (pos n) e = ltb-false k n e
@@ -172,6 +175,10 @@ pub held-more : (rs : List Rule) (r : Rule) → held (rs ++ (r ∷ [])) ≡ held
 unfolding held
 held-more [] r = omega arith
 held-more (q ∷ rs) r = omega (arith, held-more rs r)
+
+pub table-room : (sort : Sort) (s : List ℕ) (ts : List (List ℕ)) → room (tableOf sort s ts) ≡ length s + length s * length ts
+table-room allow s ts = refl
+table-room forbid s ts = refl
 
 module _ (w : Standing) (p : Proper w) where
   grown : (r : Rule) → ProperRule (length (w .declared)) r → overfull w (room r) ≡ false → Proper (withRule w r)

@@ -16,7 +16,7 @@ use Rattle.meaning.specs.Rules.{room}
 use Rattle.meaning.specs.Standing.{Standing}
 use Rattle.meaning.specs.Calls as Calls
 use Rattle.meaning.specs.Calls.{addTable, addLinear, some, beyond, tuplesOf, ruleOf, refusal}
-use Rattle.meaning.proofs.Proper.{passed, rows-count, some-no, beyond-no}
+use Rattle.meaning.proofs.Proper.{passed, rows-count, table-room, some-no, beyond-no}
 use Rattle.meaning.proofs.Tests.{or-no}
 use Rattle.checks.specs.Tests.{tableTests, linearTests}
 use Rattle.state.specs.Additions.{Counted, TableFits, TableTested, LinearFits, LinearTested}
@@ -34,16 +34,11 @@ module _ (s cells : List ℕ) where
   whole-tuples e = eqb-true (length cells % length s) 0 (not-false _ (or-no (outside arityLimit (length s)) (not (eqb (length cells % length s) 0)) e .1))
 
   room-is : (sort : Calls.Sort) → length cells % length s ≡ 0 → room (ruleOf sort s cells) ≡ length s + length cells
-  room-is sort whole = by-sort sort
-    where
-      cells-count : length s * length (tuplesOf s cells) ≡ length cells
-      cells-count =
-          let t = rows-count (length cells / length s) (length s) cells in
-          ap (λ (m : ℕ). length s * m) t ∙ mul-comm (length s) (length cells / length s) ∙ omega (arith, div-add-mod' (length cells) (length s))
-
-      by-sort : (sort : Calls.Sort) → room (ruleOf sort s cells) ≡ length s + length cells
-      by-sort Calls.allow = ap (λ (m : ℕ). length s + m) cells-count
-      by-sort Calls.forbid = ap (λ (m : ℕ). length s + m) cells-count
+  room-is sort whole =
+      let t = rows-count (length cells / length s) (length s) cells in
+      let cells-count : length s * length (tuplesOf s cells) ≡ length cells =
+      ap (λ (m : ℕ). length s * m) t ∙ mul-comm (length s) (length cells / length s) ∙ omega (arith, div-add-mod' (length cells) (length s)) in
+      table-room sort s (tuplesOf s cells) ∙ ap (λ (m : ℕ). length s + m) cells-count
 
   -- the room counts only where the length is right
   last-test : (a : Bool) (b : Bool) (e f g h : Bool) {x y : Bool} → (b ≡ false → x ≡ y)
