@@ -1,6 +1,6 @@
 -- One number: what its token says, and what the tests say of it. Assumes nothing.
 use mathlib.Core.Path.{_≡_, refl, sym, ap, _∙_, subst}
-use mathlib.Core.Bool.{Bool, true, false, cond}
+use mathlib.Core.Bool.{Bool, true, false, cond, true≢false}
 use mathlib.Core.List.{List}
 use Prim.Native.Nat.{ℕ, _≤_}
 use native.Mathlib.Omega.{arith}
@@ -16,6 +16,7 @@ use Rattle.text.specs.declared.NameRead.the-variants.{NoName, Name}
 use Rattle.text.specs.Words.{tokenStart}
 use Rattle.text.specs.Tokens.{numberAt, nameAt}
 use Rattle.reading.specs.Reading.{Reading, fault, got, Tests, judged, numberJudged, nameJudged, number, name, ended, range}
+use Rattle.reading.proofs.Readings.{isFault, whatOr}
 use Rattle.reading.specs.declared.Step.the-variants.{Fault, Read}
 use Rattle.reading.specs.Steps.{numberOf, ComesTo}
 use Rattle.refusals.specs.declared.Refusal as Refusals
@@ -76,24 +77,24 @@ unfolding ended
 is-ended text at s e n =
     record { told = (0, ap (λ (k : ℕ). cond (eqb k (length text)) (got 0 at) (fault 7 k)) (sym e) ∙ ap (λ (b : Bool). cond b (got 0 at) (fault 7 s)) (eq-eqb s (length text) n), refl) }
 
--- ---- a number that was read has passed its tests
+-- ---- what was read has passed its tests
 
--- what a reading of a number has to have passed
-abbrev Vouched : Tests → Reading ℕ → Type 0
-Vouched tests (fault n at) = Unit
-Vouched tests (got v place) = first (tests v) ≡ 0
-
-vouched : (tests : Tests) (r : NumberRead) → Vouched tests (numberJudged tests r)
-vouched tests (Malformed s) = tt
-vouched tests (Number v s after) = by-test (eqb (first (tests v)) 0) (eqb-true (first (tests v)) 0)
+pub judged-got : {A : Type 0} (ts : List (Bool × Refusal)) (at : ℕ) (reading : Reading A) {x : A} {place : ℕ} → judged ts at reading ≡ got x place → Passed ts × (reading ≡ got x place)
+judged-got ts at reading {x} {place} e = by-test (eqb (first ts) 0) (eqb-true (first ts) 0) e
   where
-    by-test : (b : Bool) → (b ≡ true → first (tests v) ≡ 0) → Vouched tests (cond b (got v after) (fault (first (tests v)) s))
-    by-test true h = h refl
-    by-test false h = tt
+    by-test : (b : Bool) → (b ≡ true → first ts ≡ 0) → cond b reading (fault (first ts) at) ≡ got x place → Passed ts × (reading ≡ got x place)
+    by-test true h e = (passed ts (h refl), e)
+    by-test false h e = absurd (true≢false (ap isFault e))
 
 pub tests-passed : (text : List ℕ) (tests : Tests) (at : ℕ) {v place : ℕ} → number text tests at ≡ got v place → Passed (tests v)
 unfolding number
-tests-passed text tests at {v} e = passed (tests v) (subst (Vouched tests) e (vouched tests (numberAt text at)))
+tests-passed text tests at {v} {place} e = by-token (numberAt text at) e
+  where
+    by-token : (r : NumberRead) → numberJudged tests r ≡ got v place → Passed (tests v)
+    by-token (Malformed s) e = absurd (true≢false (ap isFault e))
+    by-token (Number u s after) e =
+        let (p, q) = judged-got (tests u) s (got u after) e in
+        subst (λ (n : ℕ). Passed (tests n)) (ap (whatOr u) q) p
 
 pub in-range : (text : List ℕ) (low high : ℕ) (b a : Refusal) (at : ℕ) {v place : ℕ} → number text (range low b high a) at ≡ got v place → (low ≤ v) × (v ≤ high)
 in-range text low high b a at {v} e =

@@ -3,4 +3,5 @@ pub mod Coming
 pub mod Judging
 pub mod Readings
 pub mod Several
+pub mod Keeping
 pub mod Unique
