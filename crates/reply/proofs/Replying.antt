@@ -4,8 +4,9 @@ use mathlib.Core.Bool.{true≢false}
 use mathlib.Core.List.{List}
 use Prim.Native.Nat.{ℕ, _≤_, _<_}
 use native.Mathlib.Omega.{arith}
-use lib.ListN.{length}
+use lib.ListN.{length, length-map}
 use Rattle.meaning.specs.Limits.{variableLimit}
+use Rattle.meaning.specs.Standing.{Standing}
 use Rattle.meaning.proofs.Proper.{number-above}
 use Rattle.refusals.specs.declared.Refusal.{Refusal}
 use Rattle.state.specs.Holds.{Reached}
@@ -13,11 +14,11 @@ use Rattle.refusals.specs.Numbers.{tableOf}
 use Rattle.state.proofs.Runs.{run-reached}
 use Rattle.wcsp.specs.declared.Loaded.{Loaded}
 use Rattle.wcsp.specs.declared.Outcome.the-variants.{Accepted, Refused}
-use Rattle.wcsp.specs.Files.{file}
+use Rattle.wcsp.specs.Files.{valuesBelow}
 use Rattle.reading.specs.Steps.{numberOf}
 use Rattle.wcsp.specs.Promises.{Reads, said}
 use Rattle.reading.proofs.Readings.{isFault}
-use Rattle.wcsp.proofs.Sized.{sizes-bounds}
+use Rattle.wcsp.proofs.Standing.{sizes-bounds}
 use Rattle.lines.specs.Lines.{refusedLine}
 use Rattle.lines.specs.Writing.{Written}
 use Rattle.lines.proofs.Putting.{written-fits}
@@ -43,7 +44,7 @@ module _ (text : List ℕ) (loaded : Loaded) (reads : Reads text loaded) where
     pub may-solve : Reached (loaded .state) × (0 < loaded .variables) × (loaded .variables ≤ variableLimit)
     may-solve =
         let (f, place, q) = reads .only (ap said e) in
-        let (s, n, run) = reads .accepted f place q in
+        let (s, n, _, run) = reads .accepted f place q in
         let bounds = sizes-bounds text q in
         (run-reached run, omega (arith, n, bounds .0), omega (arith, n, bounds .1))
 
@@ -52,8 +53,8 @@ module _ (text : List ℕ) (loaded : Loaded) (reads : Reads text loaded) where
       fits = fits;
       refused = λ number spot q. let (f, place, p) = reads .only (ap said e) in absurd (true≢false (ap isFault (sym q ∙ p)));
       accepted = λ f place q w l.
-          let (s, n, run) = reads .accepted f place q in
-          let bounds = sizes-bounds text q in
-          let (declared, named) = named-stands f w (omega (arith, bounds .0)) (bounds .1) l in
-          subst (λ (m : ℕ). SolvedLines (loaded .state) m before after count) n solved _ w run l declared named;
+          let (s, n, _, run) = reads .accepted f place q in
+          let is = named-stands text q l .0 in
+          let declared = ap (λ (v : Standing). length (v .declared)) is ∙ length-map (f .sizes) valuesBelow in
+          subst (λ (m : ℕ). SolvedLines (loaded .state) m before after count) n solved _ w run l declared (ap (λ (v : Standing). v .objectives) is);
     }

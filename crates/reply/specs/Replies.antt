@@ -7,12 +7,12 @@ use Rattle.meaning.specs.Limits.{objectiveLimit}
 use Rattle.meaning.specs.Order.{sorted}
 use Rattle.meaning.specs.Standing.{Standing}
 use Rattle.meaning.specs.Solutions.{Answer, Inconsistent, profile}
-use Rattle.meaning.specs.Calls.{Call, nameObjectives}
+use Rattle.meaning.specs.Calls.{Call, nameObjectives, accepted}
 use Rattle.meaning.specs.Histories.{Leaves}
 use Rattle.state.specs.declared.State.{State}
 use Rattle.state.specs.Runs.{Run}
 use Rattle.reading.specs.Reading.{fault, got}
-use Rattle.wcsp.specs.Files.{File, file, calls}
+use Rattle.wcsp.specs.Files.{File, file, calls, standingOf}
 use Rattle.lines.specs.Lines.{tooLongLine, inconsistentLine, refusedLine, foundLines}
 use Rattle.lines.specs.Writing.{Written}
 
@@ -28,6 +28,10 @@ objectivesOf n = upwards 0 (min n objectiveLimit)
 -- the file's calls, and then its objectives are named; the latest call first
 abbrev pub named : File → List Call
 named f = nameObjectives (objectivesOf (length (f .sizes))) ∷ calls f
+
+-- what these leave standing: the file's variables and tables, and these objectives
+abbrev pub asked : File → Standing
+asked f = accepted (standingOf f) (nameObjectives (objectivesOf (length (f .sizes))))
 
 -- what stands has no solution, or an answer, and the lines at the buffer's start say it
 pub record Tells (w : Standing) (before after : List ℕ) (count : ℕ) : Type 0 where

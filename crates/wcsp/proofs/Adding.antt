@@ -18,34 +18,34 @@ use Rattle.state.specs.Promises.{Answers, sortSaid}
 use Rattle.state.specs.Holds.{Holds}
 use Rattle.state.specs.Runs.{Run, start, step}
 use Rattle.wcsp.specs.declared.tables.Table as Code
-use Rattle.wcsp.specs.Files.{Table, taken, variableCalls, tableCall, tableCalls}
+use Rattle.wcsp.specs.Files.{Table, taken, valuesBelow, variableCalls, tableCall, tableCalls}
 use Rattle.wcsp.specs.Steps.{TableKept}
 
 -- ---- the values 0 to s − 1
 
-first-is : (s : ℕ) → s ≤ 64 → First s (2 ^ s - 1)
+first-is : (s : ℕ) → s ≤ 64 → First s (valuesBelow s)
 first-is s h =
     by-cases (decLt s 64)
     (λ l. subst (λ (k : ℕ). First s (k - 1)) (shl-one s l) (first-ones s l))
     (λ l. let e : 64 ≡ s = omega arith in subst (λ (k : ℕ). First s (2 ^ k - 1)) e (first-all s (omega arith)))
 
-mask-is : (s m : ℕ) → s ≤ 64 → m < 2 ^ 64 → First s m → m ≡ 2 ^ s - 1
-mask-is s m h l f = first-unique m (2 ^ s - 1) l (omega (arith, pow-mono h, pow-pos s)) s f (first-is s h)
+mask-is : (s m : ℕ) → s ≤ 64 → m < 2 ^ 64 → First s m → m ≡ valuesBelow s
+mask-is s m h l f = first-unique m (valuesBelow s) l (omega (arith, pow-mono h, pow-pos s)) s f (first-is s h)
 
 -- ---- one call more
 
-calls-more : (l : List ℕ) (s : ℕ) (before : List Call) → variableCalls (l ++ (s ∷ [])) before ≡ addVariable (2 ^ s - 1) ∷ variableCalls l before
+pub calls-more : (l : List ℕ) (s : ℕ) (before : List Call) → variableCalls (l ++ (s ∷ [])) before ≡ addVariable (valuesBelow s) ∷ variableCalls l before
 unfolding variableCalls
 calls-more [] s before = refl
-calls-more (x ∷ l) s before = calls-more l s (addVariable (2 ^ x - 1) ∷ before)
+calls-more (x ∷ l) s before = calls-more l s (addVariable (valuesBelow x) ∷ before)
 
 pub variable-runs : (l : List ℕ) (s m : ℕ) {state after : State} {n : ℕ} (now : List ℕ) → now ≡ l ++ (s ∷ []) → s ≤ 64 → m < 2 ^ 64 → First s m → Run (variableCalls l []) state → Answers state (addVariable m) n after
     → Run (variableCalls now []) after
 variable-runs l s m {state} {after} {n} now e h k f run answers =
     subst⁻¹ (λ (cs : List Call). Run cs after) (ap (λ (x : List ℕ). variableCalls x []) e ∙ calls-more l s [])
-    (step (addVariable (2 ^ s - 1)) n run (subst (λ (x : ℕ). Answers state (addVariable x) n after) (mask-is s m h k f) answers))
+    (step (addVariable (valuesBelow s)) n run (subst (λ (x : ℕ). Answers state (addVariable x) n after) (mask-is s m h k f) answers))
 
-tables-more : (ts : List Table) (t : Table) (before : List Call) → tableCalls (ts ++ (t ∷ [])) before ≡ tableCall t ∷ tableCalls ts before
+pub tables-more : (ts : List Table) (t : Table) (before : List Call) → tableCalls (ts ++ (t ∷ [])) before ≡ tableCall t ∷ tableCalls ts before
 unfolding tableCalls
 tables-more [] t before = refl
 tables-more (x ∷ ts) t before = tables-more ts t (tableCall x ∷ before)

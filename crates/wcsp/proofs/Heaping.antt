@@ -2,15 +2,15 @@
 use mathlib.Core.Path.{_≡_, refl, sym, ap, ap₂, _∙_}
 use mathlib.Core.Logic.{⊎-elim}
 use mathlib.Core.List.{List, [], _∷_, _++_, append-nil, append-assoc, List·Memᴰ·not-nil, List·Memᴰ·append-cases, List·Memᴰ·eq-of-singleton}
-use Prim.Native.Nat.{ℕ, suc, _+_, _*_, _≤_, _<_}
-use native.Mathlib.Nat.{suc-mul, mul-comm, mul-le-mul-left}
+use Prim.Native.Nat.{ℕ, suc, _+_, _*_, _/_, _%_, _≤_, _<_}
+use native.Mathlib.Nat.{suc-mul, mul-comm, mul-le-mul-left, mul-div-right, mul-mod-right}
 use native.Mathlib.Numerals.{add-one}
 use native.Mathlib.Omega.{arith}
 use lib.ListN.{length, set, take, drop, length-set, length-append, take-append-drop}
 use lib.Seq.{take-add, take-set-le}
-use Rattle.meaning.specs.Calls.{rows}
+use Rattle.meaning.specs.Calls.{rows, tuplesOf}
 use Rattle.filters.specs.Layout.{joined}
-use Rattle.filters.proofs.Rooms.{rows-joined}
+use Rattle.filters.proofs.Rooms.{Even, length-joined, rows-joined}
 use Rattle.filters.proofs.Cells.{part-long}
 use Rattle.wcsp.specs.Steps.{Behind, Filled}
 
@@ -34,9 +34,22 @@ unfolding joined
 joined-append [] us = refl
 joined-append (t ∷ ts) us = ap (λ (l : List ℕ). t ++ l) (joined-append ts us) ∙ sym (append-assoc t (joined ts) (joined us))
 
-joined-one : (t : List ℕ) → joined (t ∷ []) ≡ t
+pub joined-more : (ts : List (List ℕ)) (t : List ℕ) → joined (ts ++ (t ∷ [])) ≡ joined ts ++ t
 unfolding joined
-joined-one t = append-nil t
+joined-more ts t = joined-append ts (t ∷ []) ∙ ap (λ (l : List ℕ). joined ts ++ l) (append-nil t)
+
+pub even-more : {a : ℕ} (ts : List (List ℕ)) (t : List ℕ) → Even a ts → length t ≡ a → Even a (ts ++ (t ∷ []))
+even-more ts t h e u m = ⊎-elim (h u) (λ k. ap length (List·Memᴰ·eq-of-singleton k) ∙ e) (List·Memᴰ·append-cases ts m)
+
+-- whole tuples are the tuples of their cells
+pub tuples-joined : (scope : List ℕ) (ts : List (List ℕ)) → 0 < length scope → Even (length scope) ts → (length (joined ts) % length scope ≡ 0) × (tuplesOf scope (joined ts) ≡ ts)
+tuples-joined scope ts some even =
+    let a = length scope in
+    let long = length-joined a ts even in
+    let many : length (joined ts) / a ≡ length ts = ap (λ (n : ℕ). n / a) long ∙ mul-div-right (length ts) some in (
+      ap (λ (n : ℕ). n % a) long ∙ mul-mod-right a (length ts),
+      ap₂ (λ (n : ℕ) (c : List ℕ). rows n a c) many (sym (append-nil (joined ts))) ∙ rows-joined a ts [] even,
+    )
 
 pub filled-none : (a : ℕ) (cells : List ℕ) → Filled a 0 [] cells
 unfolding joined
@@ -50,11 +63,11 @@ module _ (a count : ℕ) (ts : List (List ℕ)) (before after : List ℕ) (fille
   pub filled-more : (t : List ℕ) → t ≡ take a (drop (count * a) after) → Filled a (count + 1) (ts ++ (t ∷ [])) after
   filled-more t e = record {
     many = length-append ts (t ∷ []) ∙ ap (λ (n : ℕ). n + 1) (filled .many);
-    even = λ u m. ⊎-elim (filled .even u) (λ k. ap length (List·Memᴰ·eq-of-singleton k ∙ e) ∙ part-long after (count * a) a (omega (arith, behind .long))) (List·Memᴰ·append-cases ts m);
+    even = even-more ts t (filled .even) (ap length e ∙ part-long after (count * a) a (omega (arith, behind .long)));
     cells-are =
         let q : (count + 1) * a ≡ count * a + a = ap (λ (n : ℕ). n * a) (add-one count) ∙ omega (arith, suc-mul count a) in
         ap (λ (n : ℕ). take n after) q ∙ take-add (count * a) a after ∙ ap₂ (λ (u w : List ℕ). u ++ w) cells-before (sym e)
-        ∙ sym (joined-append ts (t ∷ []) ∙ ap (λ (l : List ℕ). joined ts ++ l) (joined-one t));
+        ∙ sym (joined-more ts t);
   }
 
   -- they are the rows of the cells

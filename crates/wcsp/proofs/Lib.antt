@@ -5,7 +5,8 @@ pub mod Cases
 pub mod Heading
 pub mod Heaping
 pub mod Keying
-pub mod Sized
+pub mod Sound
+pub mod Standing
 pub mod Tabling
 pub mod Tupling
 pub mod Unique

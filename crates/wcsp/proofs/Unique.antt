@@ -36,8 +36,8 @@ module _ (text : List ℕ) {r s : Loaded} (a : Reads text r) (b : Reads text s) 
       let (q, m, kept) = b .refused number at e in
       (p ∙ sym q, n ∙ sym m, holds-unique hold kept)
   same-read (got f place) e =
-      let (p, n, run) = a .accepted f place e in
-      let (q, m, also) = b .accepted f place e in
+      let (p, n, _, run) = a .accepted f place e in
+      let (q, m, _, also) = b .accepted f place e in
       (p ∙ sym q, n ∙ sym m, run-unique run also)
 
   pub read-unique : r ≡ s

@@ -1,6 +1,6 @@
 -- A file as a whole. Assumes nothing.
 use mathlib.Core.Path.{_≡_, refl, sym, ap, _∙_, subst, subst⁻¹}
-use mathlib.Core.Bool.{true, false, true≢false}
+use mathlib.Core.Bool.{true≢false}
 use mathlib.Core.List.{List, []}
 use Prim.Native.Nat.{ℕ, _≤_}
 use native.Mathlib.Omega.{arith}
@@ -13,16 +13,18 @@ use Rattle.meaning.proofs.Proper.{number-above}
 use Rattle.refusals.specs.Numbers.{tableOf}
 use Rattle.state.specs.Holds.{Holds}
 use Rattle.state.specs.Runs.{Run}
+use Rattle.state.proofs.Runs.{run-holds}
 use Rattle.reading.specs.declared.Step.{Step}
 use Rattle.reading.specs.declared.Step.the-variants.{Fault, Read}
 use Rattle.wcsp.specs.declared.loading.Attempt as Code
 use Rattle.wcsp.specs.declared.Outcome.the-variants.{Accepted, Refused}
-use Rattle.reading.specs.Reading.{fault, several, times, ended}
+use Rattle.reading.specs.Reading.{several, times, ended}
 use Rattle.wcsp.specs.Files.{Header, File, header, sizeTests, table, file, calls, variableCalls, tableCalls}
 use Rattle.reading.specs.Steps.{numberOf, Comes, ComesTo}
 use Rattle.wcsp.specs.Steps.{Says, Whole}
 use Rattle.wcsp.specs.Promises.{Reads}
 use Rattle.reading.proofs.Readings.{faultOf, isFault, whatOr}
+use Rattle.wcsp.proofs.Standing.{file-accepted}
 use Rattle.reading.proofs.Coming.{comes-by, stops, fault-is, went-on, goes-on, last-one}
 
 abbrev Kept : ℕ → State → File → ℕ → Type 0
@@ -90,6 +92,8 @@ reads-file text n state came e =
       refused = λ number spot p. absurd (true≢false (ap isFault (sym p ∙ q)));
       accepted = λ g spot p.
           let same : f ≡ g = ap (whatOr f) (sym q ∙ p) in
-          (refl, sym (kept .0) ∙ ap (λ (x : File). length (x .sizes)) same, subst (λ (x : File). Run (calls x) state) same (kept .1));
+          let run = subst (λ (x : File). Run (calls x) state) same (kept .1) in
+          let (w, l, hold) = run-holds run in
+          (refl, sym (kept .0) ∙ ap (λ (x : File). length (x .sizes)) same, file-accepted text p l, run);
       only = λ p. (f, _, q);
     }

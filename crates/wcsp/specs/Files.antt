@@ -1,16 +1,18 @@
--- What a file means (document 01, "Reading wcsp"): its first fault, or the variables and tables that it adds.
+-- What a file means (document 01, "Reading wcsp"): its first fault, or the variables and tables that it adds, and what they leave standing.
 use mathlib.Core.Bool.{Bool, _||_}
-use mathlib.Core.List.{List, [], _∷_}
+use mathlib.Core.List.{List, [], _∷_, map}
 use Prim.Native.Nat.{ℕ, _+_, _-_, _*_, _^_}
 use lib.Dec.{leb, ltb, eqb}
 use lib.ListN.{length, getD}
 use Rattle.meaning.specs.Limits.{variableLimit, valueLimit, ruleLimit, roomLimit, arityLimit}
 use Rattle.meaning.specs.Refusals.{Refusal, noSuchVariable, variableTwice, wrongLength, outOfRange, tupleTwice, full}
-use Rattle.meaning.specs.Calls.{Call, Sort, addVariable, addTable, some, same}
+use Rattle.meaning.specs.Rules.{Rule}
+use Rattle.meaning.specs.Standing.{Standing}
+use Rattle.meaning.specs.Calls.{Call, Sort, addVariable, addTable, some, same, tableOf}
 use Rattle.filters.specs.Layout.{joined}
 use Rattle.text.specs.Words.{tokenStart}
 use Rattle.costs.specs.Costs.{sameSaid, sortBy}
-use Rattle.reading.specs.Reading.{Reading, fault, got, next, Tests, anyNumber, range, judged, number, name, several, ended, times}
+use Rattle.reading.specs.Reading.{Reading, got, next, Tests, anyNumber, range, judged, number, name, several, ended, times}
 
 pub record Header : Type 0 where
   pub variables : ℕ
@@ -90,9 +92,12 @@ module _ (text : List ℕ) where
 -- ---- the calls that an accepted file stands for, the latest first
 
 -- a size s means the values 0 to s − 1
+abbrev pub valuesBelow : ℕ → ℕ
+valuesBelow s = 2 ^ s - 1
+
 unfoldable pub variableCalls : List ℕ → List Call → List Call
 variableCalls [] before = before
-variableCalls (s ∷ sizes) before = variableCalls sizes (addVariable (2 ^ s - 1) ∷ before)
+variableCalls (s ∷ sizes) before = variableCalls sizes (addVariable (valuesBelow s) ∷ before)
 
 abbrev pub tableCall : Table → Call
 tableCall t = addTable (t .sort) (t .scope) (joined (t .tuples))
@@ -103,3 +108,11 @@ tableCalls (t ∷ ts) before = tableCalls ts (tableCall t ∷ before)
 
 abbrev pub calls : File → List Call
 calls f = tableCalls (f .tables) (variableCalls (f .sizes) [])
+
+-- ---- what these calls leave standing: a set of values for each size, a rule for each table, in file order, and nothing else
+
+abbrev pub tableRule : Table → Rule
+tableRule t = tableOf (t .sort) (t .scope) (t .tuples)
+
+abbrev pub standingOf : File → Standing
+standingOf f = record { declared = map valuesBelow (f .sizes); rules = map tableRule (f .tables); objectives = []; decisions = [] }
