@@ -5,7 +5,7 @@ use Prim.Native.Nat.{ℕ}
 use Rattle.meaning.specs.Rules.{Rule}
 use Rattle.meaning.proofs.Largest.{same-lists}
 use Rattle.blocks.proofs.Unique.{changed-unique, done-or-not}
-use Rattle.filters.specs.Filter.{Filtered, Filtering, FiltersBy, Settles}
+use Rattle.filters.specs.Filter.{Filtered, Filtering, FiltersBy, SettlesLists}
 
 filtered-unique : {r : Rule} {L K M : List ℕ} → Filtered r L K → Filtered r L M → K ≡ M
 filtered-unique {r} {L} {K} {M} a b =
@@ -21,6 +21,6 @@ pub filter-rule-unique : (heads room : List ℕ) (rules k : ℕ) (L K M : List �
     → (K ≡ M) × (c ≡ d)
 filter-rule-unique heads room rules k L K M c d a b = done-or-not L k rules (λ l long. filtering-unique (a .by l long) (b .by l long)) (a .none) (b .none)
 
-pub settled-unique : (heads room : List ℕ) (rules : ℕ) (lists r q : List ℕ) → Settles heads room rules lists r → Settles heads room rules lists q → r ≡ q
+pub settled-unique : (heads room : List ℕ) (rules : ℕ) (lists r q : List ℕ) → SettlesLists heads room rules lists r → SettlesLists heads room rules lists q → r ≡ q
 settled-unique heads room rules lists r q a b =
     same-lists (a .long ∙ sym (b .long)) (b .most r (a .within) (a .closed)) (a .most q (b .within) (b .closed))

@@ -68,5 +68,5 @@ pub record FiltersBy (heads room : List ℕ) (rules k : ℕ) (L K : List ℕ) (c
   pub none : (rules ≤ k) ⊎ ¬ (length L ≡ variableLimit) → (K ≡ L) × (c ≡ 0)
 
 -- r are the largest lists within those given in which every value has support in each of the rules
-abbrev pub Settles : List ℕ → List ℕ → ℕ → List ℕ → List ℕ → Type 0
-Settles heads room rules lists r = LargestIn (rulesAt heads room rules) lists r
+abbrev pub SettlesLists : List ℕ → List ℕ → ℕ → List ℕ → List ℕ → Type 0
+SettlesLists heads room rules lists r = LargestIn (rulesAt heads room rules) lists r

@@ -3,7 +3,7 @@ ghost use mathlib.Core.Path.{_≡_};
 ghost use lib.ListN.{length};
 ghost use Rattle.meaning.specs.Limits.{variableLimit, roomLimit};
 ghost use Rattle.filters.specs.Layout.{Placed, AllPlaced, ruleAt, rulesAt};
-ghost use Rattle.filters.specs.Filter.{Filtering, FiltersBy, Sweeping, Settles};
+ghost use Rattle.filters.specs.Filter.{Filtering, FiltersBy, Sweeping, SettlesLists};
 ghost use Rattle.filters.specs.Held.{RulesOf};
 use crate::allowed;
 use crate::forbidden;
@@ -62,7 +62,7 @@ fn sweep(heads: &[u32], room: &[u16], rules: usize, lists: &mut [u64]) -> u64
 // Sweeps over the rules of a state until one drops nothing: the largest closed lists within those given.
 pub fn settled<'a>(heads: &'a [u32], room: &'a [u16], rules: usize, lists: [u64; 32]) -> [u64; 32]
     requires { ⌜ RulesOf (now heads) (now room) rules ⌝ }
-    ensures { λ r. ⌜ Settles (now (heads .entry)) (now (room .entry)) rules lists r ⌝ }
+    ensures { λ r. ⌜ SettlesLists (now (heads .entry)) (now (room .entry)) rules lists r ⌝ }
 {
     let mut left = lists;
     let mut changed: u64 = 1;

@@ -31,7 +31,7 @@ use Rattle.leximin.specs.Solving.{Outcome, solvedNumber}
 use Rattle.leximin.proofs.Unique.{outcome-unique}
 use Rattle.guarantees.specs.Telling.{listOf}
 use Rattle.guarantees.specs.Binding.{KeepsFirst, TakesSecond, SaysSolved, SaysLeft, Binds}
-use Rattle.guarantees.proofs.Telling.{run-tells}
+use Rattle.guarantees.proofs.Telling.{run-right}
 
 -- ---- profiles, u lent first and w second
 
@@ -62,7 +62,7 @@ says-solved : (calls : List Call) (A : Standing → Type 0) (answer : Solved) (l
     → ((w : Standing) → A w → (buffer : List ℕ) → Outcome w buffer answer (left buffer)) → After calls (λ w. Solves w (A w)) → SaysSolved calls answer left
 says-solved calls A answer left e outcome so s before after r run fits told =
     let w = so .stands in
-    let got = run-tells run (so .leaves) .solved before after r told in
+    let got = run-right run (so .leaves) .solved before after r told in
     let few : length (w .declared) ≤ length before = omega (arith, run-stands w run (so .leaves) .variables) in
     outcome-unique w before r answer after (left before) (got .number ∙ enough w (length before) (so .so .0) few ∙ sym e)
     (got .outcome) (outcome w (so .so .1) before)
@@ -72,7 +72,7 @@ says-left calls L so s x r run below told =
     let w = so .stands in
     let is : unknown w x ≡ false = lt-leb (length (w .declared)) x (omega (arith, run-stands w run (so .leaves) .variables)) in
     let known : listOf w L x ≡ Values (getD L x 0) = rw is in
-    run-tells run (so .leaves) .left x r told L (so .so) ∙ known
+    run-right run (so .leaves) .left x r told L (so .so) ∙ known
 
 -- ---- the table
 

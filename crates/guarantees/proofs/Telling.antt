@@ -24,7 +24,7 @@ use Rattle.decide.specs.declared.Left.the-variants.{Values, Refused}
 use Rattle.decide.specs.Decisions.{leftNumber, leftValues}
 use Rattle.desk.specs.DeskRuns.{DeskRun}
 use Rattle.desk.proofs.Runs.{desk-run}
-use Rattle.guarantees.specs.Telling.{Tells, Restores, TakenBack}
+use Rattle.guarantees.specs.Telling.{RightOf, Restores, TakenBack}
 
 -- ---- a run
 
@@ -36,9 +36,9 @@ left-is false m (Values n) e f = ap Values f
 left-is false m (Refused q) e f = not-accepted q e
 
 -- after any run the values left are the largest lists of what the history leaves, and solving answers as of it
-pub run-tells : {h : List Call} {s : State} {w : Standing} → Run h s → Leaves h w → Tells s w
+pub run-right : {h : List Call} {s : State} {w : Standing} → Run h s → Leaves h w → RightOf s w
 unfolding first
-run-tells {h} {w} r l =
+run-right {h} {w} r l =
     let hold = run-stands w r l in
     record {
       left = λ x a told L most. let (e, f) = told h w L l hold most in left-is (unknown w x) _ a e f;
@@ -63,14 +63,14 @@ module _ {h : List Call} {s t : State} {w : Standing} {number : ℕ} (r : Run h 
   restores : k < outstanding w → Restores h w k t
   restores low =
       let was = gives-what-stood l k .fewer low in
-      let tells = run-tells then (rw (was .back) at (then-leaves (omega arith))) in
+      let right = run-right then (rw (was .back) at (then-leaves (omega arith))) in
       record {
         stood = was;
         passed = run-passed (was .later) (making (was .decision)) (rw (was .history) at r);
         left = λ x v earlier b c now before.
             let most = run-largest (was .before) earlier (was .leaves) in
-            tells .left x b now _ (objectives-largest (w .objectives) most) ∙ sym (run-tells earlier (was .leaves) .left x c before _ most);
-        tells = tells;
+            right .left x b now _ (objectives-largest (w .objectives) most) ∙ sym (run-right earlier (was .leaves) .left x c before _ most);
+        right = right;
       }
 
   -- and after a take-back, what they were before the first decision that it dropped was made
@@ -83,8 +83,8 @@ module _ {h : List Call} {s t : State} {w : Standing} {number : ℕ} (r : Run h 
 
 -- ---- at the desk
 
-pub desk-tells : {h : List Call} {s : State} {w : Standing} → DeskRun h s → Leaves h w → Tells s w
-desk-tells d = run-tells (desk-run d)
+pub desk-right : {h : List Call} {s : State} {w : Standing} → DeskRun h s → Leaves h w → RightOf s w
+desk-right d = run-right (desk-run d)
 
 pub desk-taken-back : {h : List Call} {s t : State} {w : Standing} {number : ℕ} → DeskRun h s → Leaves h w → (k : ℕ) → Answers s (takeBack k) number t
     → TakenBack h s w k number t

@@ -22,7 +22,7 @@ abbrev pub listOf : Standing → List ℕ → ℕ → Left
 listOf w L x = cond (unknown w x) (Refused NoSuchVariable) (Values (getD L x 0))
 
 -- Whatever the contracts let be told of the state s is right of w: the values left are those of the largest lists, and solving answers as it should.
-pub record Tells (s : State) (w : Standing) : Type 0 where
+pub record RightOf (s : State) (w : Standing) : Type 0 where
   pub left : (x : ℕ) (r : Left) → TellsLeft s x r → (L : List ℕ) → Largest w L → r ≡ listOf w L x
   pub solved : (before after : List ℕ) (r : Solved) → Solves s before r after → SolvedAs w before r after
 
@@ -33,7 +33,7 @@ pub record Restores (h : List Call) (w : Standing) (k : ℕ) (t : State) : Type 
   pub passed : (v : State) × Run (stood .earlier) v
   pub left : (x : ℕ) (v : State) → Run (stood .earlier) v → (r q : Left) → TellsLeft t x r → TellsLeft v x q → r ≡ q
   -- all that is told of t is right of what stood then, but for the objectives, which stay
-  pub tells : Tells t (withObjectives (stood .before) (w .objectives))
+  pub right : RightOf t (withObjectives (stood .before) (w .objectives))
 
 -- A run with the history h left the state s and w standing; then a take-back to depth k answered with the number and left t.
 pub record TakenBack (h : List Call) (s : State) (w : Standing) (k number : ℕ) (t : State) : Type 0 where

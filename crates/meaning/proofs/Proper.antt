@@ -17,7 +17,7 @@ use Rattle.meaning.specs.Refusals.{Refusal, number, first}
 use Rattle.meaning.specs.Order.{outside}
 use Rattle.meaning.specs.Rules.{Rule, linear, room}
 use Rattle.meaning.specs.Standing.{Standing, Decision, pinned, banned, nothing}
-use Rattle.meaning.specs.Calls.{Sort, allow, forbid, Call, addVariable, addTable, addLinear, nameObjectives, pin, ban, takeBack, some, same, repeats, beyond, rows, tuplesOf, held, tableOf, ruleOf, unknown, overfull, tests, refusal, withRule, withDecisions, accepted, after}
+use Rattle.meaning.specs.Calls.{Sort, allow, forbid, Call, addVariable, addTable, addLinear, nameObjectives, pin, ban, takeBack, some, same, repeats, beyond, rows, tuplesOf, held, ruleListing, ruleOf, unknown, overfull, tests, refusal, withRule, withDecisions, accepted, after}
 use Rattle.meaning.specs.Histories.{Leaves, none, call}
 use Rattle.meaning.specs.Proper.{Distinct, ProperTuples, Around, ProperRule, Proper}
 use Rattle.meaning.proofs.Tests.{or-no, near-both}
@@ -176,7 +176,7 @@ unfolding held
 held-more [] r = omega arith
 held-more (q ∷ rs) r = omega (arith, held-more rs r)
 
-pub table-room : (sort : Sort) (s : List ℕ) (ts : List (List ℕ)) → room (tableOf sort s ts) ≡ length s + length s * length ts
+pub table-room : (sort : Sort) (s : List ℕ) (ts : List (List ℕ)) → room (ruleListing sort s ts) ≡ length s + length s * length ts
 table-room allow s ts = refl
 table-room forbid s ts = refl
 

@@ -56,12 +56,12 @@ unfoldable pub held : List Rule → ℕ
 held [] = 0
 held (r ∷ rs) = room r + held rs
 
-abbrev pub tableOf : Sort → List ℕ → List (List ℕ) → Rule
-tableOf allow scope tuples = allowed scope tuples
-tableOf forbid scope tuples = forbidden scope tuples
+abbrev pub ruleListing : Sort → List ℕ → List (List ℕ) → Rule
+ruleListing allow scope tuples = allowed scope tuples
+ruleListing forbid scope tuples = forbidden scope tuples
 
 abbrev pub ruleOf : Sort → List ℕ → List ℕ → Rule
-ruleOf sort scope cells = tableOf sort scope (tuplesOf scope cells)
+ruleOf sort scope cells = ruleListing sort scope (tuplesOf scope cells)
 
 module _ (w : Standing) where
   abbrev pub outstanding : ℕ

@@ -11,7 +11,7 @@ use lib.ListN.{length, length-map}
 use Rattle.meaning.specs.Limits.{variableLimit, valueLimit, ruleLimit, roomLimit, arityLimit}
 use Rattle.meaning.specs.Rules.{Rule, room}
 use Rattle.meaning.specs.Standing.{Standing}
-use Rattle.meaning.specs.Calls.{Call, addVariable, some, same, repeats, held, tableOf, ruleOf, overfull, tests}
+use Rattle.meaning.specs.Calls.{Call, addVariable, some, same, repeats, held, ruleListing, ruleOf, overfull, tests}
 use Rattle.meaning.specs.Histories.{Leaves, AllAccepted}
 use Rattle.meaning.proofs.Tests.{near-both}
 use Rattle.meaning.proofs.Finding.{Finds}
@@ -55,7 +55,7 @@ module _ (sizes : List ℕ) (ts : List Table) (t : Table) (sound : Sound (length
   w = standingOf (fileOf sizes ts)
 
   rule-is : ruleOf (t .sort) (t .scope) (joined (t .tuples)) ≡ tableRule t
-  rule-is = ap (tableOf (t .sort) (t .scope)) (tuples-joined (t .scope) (t .tuples) (sound .size .0) (sound .even) .1)
+  rule-is = ap (ruleListing (t .sort) (t .scope)) (tuples-joined (t .scope) (t .tuples) (sound .size .0) (sound .even) .1)
 
   table-passes : length ts < ruleLimit → (L : List ℕ) → Finds (tests w L (tableCall t)) 0
   table-passes few L =

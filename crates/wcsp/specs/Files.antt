@@ -8,7 +8,7 @@ use Rattle.meaning.specs.Limits.{variableLimit, valueLimit, ruleLimit, roomLimi
 use Rattle.meaning.specs.Refusals.{Refusal, noSuchVariable, variableTwice, wrongLength, outOfRange, tupleTwice, full}
 use Rattle.meaning.specs.Rules.{Rule}
 use Rattle.meaning.specs.Standing.{Standing}
-use Rattle.meaning.specs.Calls.{Call, Sort, addVariable, addTable, some, same, tableOf}
+use Rattle.meaning.specs.Calls.{Call, Sort, addVariable, addTable, some, same, ruleListing}
 use Rattle.filters.specs.Layout.{joined}
 use Rattle.text.specs.Words.{tokenStart}
 use Rattle.costs.specs.Costs.{sameSaid, sortBy}
@@ -112,7 +112,7 @@ calls f = tableCalls (f .tables) (variableCalls (f .sizes) [])
 -- ---- what these calls leave standing: a set of values for each size, a rule for each table, in file order, and nothing else
 
 abbrev pub tableRule : Table → Rule
-tableRule t = tableOf (t .sort) (t .scope) (t .tuples)
+tableRule t = ruleListing (t .sort) (t .scope) (t .tuples)
 
 abbrev pub standingOf : File → Standing
 standingOf f = record { declared = map valuesBelow (f .sizes); rules = map tableRule (f .tables); objectives = []; decisions = [] }
