@@ -18,23 +18,32 @@ best-of-requires c κs = search needs
 
 returns-3 : tie.Need-returns-3
 returns-3 c =
-    let a = c .before .before .before .before .before .before .args in
-    let best = c .before .before .best-of in
-    nothing-found (a .s) (a .buffer .now) (λ e. omega (arith, c .before .before .before .before .if1 .left)) (c .before .before .before .if2 .left) (best .result .found) (best .result .values) (best .ensures) (not-true _ (c .if3 .taken))
+    let solved = c .before in
+    let fits = solved .before in
+    let some = fits .before in
+    let start = some .before .before in
+    let best = solved .best-of in
+    nothing-found (start .args .s) (start .args .buffer .now) (λ e. omega (arith, some .if1 .left)) (fits .if2 .left) (best .result .found) (best .result .values) (best .ensures) (not-true _ (c .if3 .taken))
 
 put-values-requires : tie.Need-put-values-requires
-put-values-requires c κs = (sizes (c .before .before .before .before .before .before .before .before .pre) .variables, c .before .before .before .before .before .if2 .left)
+put-values-requires c κs =
+    let fits = c .before .before .before .before in
+    (sizes (fits .before .before .before .pre) .variables, fits .if2 .left)
 
 same-length : tie.Need-same-length
 same-length c = search needs
 
 returns-4 : tie.Need-returns-4
 returns-4 c =
-    let start = c .before .before .before .before .before .before .before .before .before .before .before in
-    let best = c .before .before .before .before .before .before .before .best-of in
-    let put = c .before .before .put-values in
-    best-found (start .args .s) (start .args .buffer .now) (λ e. omega (arith, c .before .before .before .before .before .before .before .before .before .if1 .left)) (c .before .before .before .before .before .before .before .before .if2 .left) (best .result .found) (best .result .values) (best .ensures)
-    (not-false _ (c .before .before .before .before .before .if3 .left)) (put .last .0) (put .ensures)
+    let put = c .before .before in
+    let found = put .before .before .before in
+    let solved = found .before in
+    let fits = solved .before in
+    let some = fits .before in
+    let start = some .before .before in
+    let best = solved .best-of in
+    best-found (start .args .s) (start .args .buffer .now) (λ e. omega (arith, some .if1 .left)) (fits .if2 .left) (best .result .found) (best .result .values) (best .ensures)
+    (not-false _ (found .if3 .left)) (put .put-values .last .0) (put .put-values .ensures)
 
 pub solve-spec : {M : Type 1} → statement M
 solve-spec =
