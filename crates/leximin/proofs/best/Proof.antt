@@ -75,17 +75,7 @@ array-write-floors-2 : tie.Need-array-write-floors-2 Inv-loop μ-loop
 array-write-floors-2 c = omega (arith, given-known (c .before .before .before .before .before .before .before .before .before .before .before .before .pre) .most)
 
 add-i : tie.Need-add-i Inv-loop μ-loop
-add-i c = search needs
-
-loop-less-2 : tie.Need-loop-less-2 Inv-loop μ-loop
-loop-less-2 c =
-    let start = c .before .before .before .before .before .before .before .before .before .before .before .before in
-    let a = start .args in
-    let loop = c .before .before .before .before .before .loop in
-    let reached = c .before .before .sorted-at in
-    let next = c .before .first-reaching2 in
-    goes-on-less (given-known (start .pre)) (rulesAt (a .heads .now) (a .room .now) (a .rules)) (a .lists) (loop .rota) (loop .floors) (loop .i) (loop .inv) (array-fits w64 32 (a .lists) _ (start .good .1 .1 .1 .1 .1 .1 .0)) (omega arith)
-    (reached .result) (reached .ensures) (next .result) (next .ensures)
+add-i c = omega (arith, given-known (c .before .before .before .before .before .before .before .before .before .before .before .before .pre) .most)
 
 loop-again-2 : tie.Need-loop-again-2 Inv-loop μ-loop
 loop-again-2 c =
@@ -96,6 +86,16 @@ loop-again-2 c =
     let next = c .before .first-reaching2 in
     goes-on (given-known (start .pre)) (rulesAt (a .heads .now) (a .room .now) (a .rules)) (a .lists) (loop .rota) (loop .floors) (loop .i) (loop .inv) (array-fits w64 32 (a .lists) _ (start .good .1 .1 .1 .1 .1 .1 .0)) (omega arith)
     (reached .result) (reached .ensures) (next .result) (next .ensures) (c .if2 .left)
+
+loop-less-2 : tie.Need-loop-less-2 Inv-loop μ-loop
+loop-less-2 c =
+    let start = c .before .before .before .before .before .before .before .before .before .before .before .before in
+    let a = start .args in
+    let loop = c .before .before .before .before .before .loop in
+    let reached = c .before .before .sorted-at in
+    let next = c .before .first-reaching2 in
+    goes-on-less (given-known (start .pre)) (rulesAt (a .heads .now) (a .room .now) (a .rules)) (a .lists) (loop .rota) (loop .floors) (loop .i) (loop .inv) (array-fits w64 32 (a .lists) _ (start .good .1 .1 .1 .1 .1 .1 .0)) (omega arith)
+    (reached .result) (reached .ensures) (next .result) (next .ensures)
 
 returns-2 : tie.Need-returns-2 Inv-loop μ-loop
 returns-2 c =
