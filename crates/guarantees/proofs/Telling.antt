@@ -10,13 +10,13 @@ use Rattle.meaning.specs.Calls.{Call, takeBack, unknown, outstanding, accepted}
 use Rattle.meaning.specs.Histories.{Leaves, call}
 use Rattle.meaning.specs.TakingBack.{making}
 use Rattle.meaning.proofs.Steps.{objectives-largest}
+use Rattle.meaning.proofs.Histories.{after-accepted}
 use Rattle.meaning.proofs.TakingBack.{gives-what-stood}
 use Rattle.refusals.specs.declared.Refusal.the-variants.{NoSuchVariable}
 use Rattle.refusals.proofs.Unique.{same-refusal, not-accepted}
 use Rattle.state.specs.declared.State.{State}
 use Rattle.state.specs.Promises.{Answers}
 use Rattle.state.specs.Runs.{Run, step}
-use Rattle.state.proofs.Answering.{after-accepted}
 use Rattle.state.proofs.Runs.{run-stands, run-largest}
 use Rattle.state.proofs.Unique.{holds-unique}
 use Rattle.decide.specs.declared.Left.{Left}

@@ -1,15 +1,26 @@
--- A history leaves one thing standing; one whose calls pass their tests leaves what each adds. Assumes nothing.
+-- What a call leaves standing, accepted or refused; a history leaves one thing standing, and one whose calls pass their tests leaves what each adds.
+-- Assumes nothing.
 use mathlib.Core.Path.{_≡_, refl, ap, ap₂, _∙_}
 use mathlib.Core.Bool.{Bool, cond}
 use mathlib.Core.List.{List, [], _∷_}
 use Prim.Native.Nat.{ℕ}
-use borrow.Author.Tests.{eq-eqb}
+use borrow.Author.Tests.{eq-eqb, ne-eqb}
 use Rattle.meaning.specs.Standing.{Standing, nothing}
 use Rattle.meaning.specs.Lists.{Largest}
 use Rattle.meaning.specs.Calls.{Call, tests, refusal, accepted, after}
 use Rattle.meaning.specs.Histories.{Leaves, none, call, AllAccepted}
 use Rattle.meaning.proofs.Finding.{Finds, finds}
 use Rattle.meaning.proofs.Largest.{largest-unique}
+
+-- ---- one call
+
+pub after-accepted : (w : Standing) (L : List ℕ) (c : Call) → refusal w L c ≡ 0 → after w L c ≡ accepted w c
+after-accepted w L c e = ap (λ (b : Bool). cond b (accepted w c) w) (eq-eqb (refusal w L c) 0 e)
+
+pub after-refused : (w : Standing) (L : List ℕ) (c : Call) → ¬ (refusal w L c ≡ 0) → after w L c ≡ w
+after-refused w L c n = ap (λ (b : Bool). cond b (accepted w c) w) (ne-eqb (refusal w L c) 0 n)
+
+-- ---- a history
 
 pub leaves-unique : (h : List Call) {u w : Standing} → Leaves h u → Leaves h w → u ≡ w
 leaves-unique [] none none = refl
@@ -27,9 +38,6 @@ pub data Builds : List Call → Standing → Type 0 where
 
 pub builds-more : {g h : List Call} {v w : Standing} (c : Call) → Builds h w → ((L : List ℕ) → Finds (tests w L c) 0) → g ≡ c ∷ h → v ≡ accepted w c → Builds g v
 builds-more {h} {w} c b passes e f = rw (e, f) (more c b (λ L. finds (tests w L c) 0 (passes L)))
-
-after-accepted : (w : Standing) (L : List ℕ) (c : Call) → refusal w L c ≡ 0 → after w L c ≡ accepted w c
-after-accepted w L c e = ap (λ (b : Bool). cond b (accepted w c) w) (eq-eqb (refusal w L c) 0 e)
 
 pub builds : (h : List Call) {w v : Standing} → Builds h w → Leaves h v → (v ≡ w) × AllAccepted h
 builds [] start none = (refl, tt)

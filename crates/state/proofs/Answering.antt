@@ -1,18 +1,17 @@
 -- How an answer meets its promise: a refusal leaves the state as it stood, an accepted call leaves what is accepted.
 -- Assumes nothing.
 use mathlib.Core.Path.{_≡_, sym, ap, _∙_}
-use mathlib.Core.Bool.{Bool, cond}
 use mathlib.Core.List.{List}
 use Prim.Native.Nat.{ℕ}
 use native.Mathlib.Omega.{arith}
-use borrow.Author.Tests.{eq-eqb, ne-eqb}
 use Rattle.meaning.specs.Refusals.{number}
 use Rattle.meaning.specs.Standing.{Standing}
 use Rattle.meaning.specs.Lists.{Largest}
-use Rattle.meaning.specs.Calls.{Call, refusal, accepted, after}
+use Rattle.meaning.specs.Calls.{Call, refusal, accepted}
 use Rattle.meaning.specs.Histories.{Leaves}
 use Rattle.meaning.specs.Proper.{Proper}
 use Rattle.meaning.proofs.Proper.{number-above, leaves-proper}
+use Rattle.meaning.proofs.Histories.{after-accepted, after-refused}
 use Rattle.state.specs.declared.State.{State}
 use Rattle.refusals.specs.declared.Refusal.{Refusal}
 use Rattle.refusals.specs.declared.Answer.{Answer}
@@ -20,14 +19,6 @@ use Rattle.refusals.specs.declared.Answer.the-variants.{Refused}
 use Rattle.state.specs.Holds.{Holds}
 use Rattle.refusals.specs.Numbers.{numberOf, tableOf}
 use Rattle.state.specs.Promises.{Answers}
-
--- ---- what stands after the call
-
-after-refused : (w : Standing) (L : List ℕ) (c : Call) → ¬ (refusal w L c ≡ 0) → after w L c ≡ w
-after-refused w L c n = ap (λ (b : Bool). cond b (accepted w c) w) (ne-eqb (refusal w L c) 0 n)
-
-pub after-accepted : (w : Standing) (L : List ℕ) (c : Call) → refusal w L c ≡ 0 → after w L c ≡ accepted w c
-after-accepted w L c e = ap (λ (b : Bool). cond b (accepted w c) w) (eq-eqb (refusal w L c) 0 e)
 
 pub refuses : (s : State) (c : Call) (r : Refusal) (a : Answer) (t : State) → (a ≡ Refused r) × (t ≡ s)
     → ((w : Standing) (L : List ℕ) → Proper w → Holds s w → Largest w L → refusal w L c ≡ number (tableOf r)) → Answers s c (numberOf a) t

@@ -13,6 +13,7 @@ use Rattle.meaning.specs.Calls as Calls
 use Rattle.meaning.specs.Calls.{Call, tuplesOf, ruleOf, held, withRule, refusal, accepted}
 use Rattle.meaning.specs.Histories.{call}
 use Rattle.meaning.specs.Proper.{Proper}
+use Rattle.meaning.proofs.Histories.{after-accepted}
 use Rattle.meaning.proofs.Proper.{leaves-proper, accepted-proper, number-above, rows-count, held-more}
 use Rattle.state.specs.declared.State.{State}
 use Rattle.refusals.specs.declared.Refusal.{Refusal}
@@ -26,7 +27,7 @@ use Rattle.state.specs.Holds.{Holds, Reached}
 use Rattle.refusals.specs.Numbers.{numberOf, tableOf}
 use Rattle.state.specs.Promises.{Answers, sortSaid}
 use Rattle.state.specs.Additions.{sortNumber, TableFits, LinearFits, LaidOut, Extends, Followable, Followed, Counted}
-use Rattle.state.proofs.Answering.{after-accepted, stays, accepts}
+use Rattle.state.proofs.Answering.{stays, accepts}
 use Rattle.state.proofs.Holding.{current}
 use Rattle.state.proofs.Following.{followable, followed-held}
 use Rattle.state.proofs.Behind.{head-added, table-added, linear-added}
