@@ -13,7 +13,7 @@ use Rattle.meaning.specs.Refusals.{number, first, noSuchVariable, outOfRange, t
 use Rattle.meaning.specs.Values.{bit, Has, Lacks}
 use Rattle.meaning.specs.Standing.{Standing, Decision, pinned, banned}
 use Rattle.meaning.specs.Lists.{Left, Largest, Cut}
-use Rattle.meaning.specs.Calls.{pin, ban, unknown, tests, decide, decisionTests}
+use Rattle.meaning.specs.Calls.{pin, ban, unknown, decide, decisionTests}
 use Rattle.meaning.specs.Proper.{Proper}
 use Rattle.meaning.proofs.Largest.{largest-unique}
 use Rattle.meaning.proofs.Proper.{leaves-proper, number-above}

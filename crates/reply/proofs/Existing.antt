@@ -1,4 +1,4 @@
--- Every history leaves something standing, and what stands has an answer or no solution: surely, without computing them. Assumes nothing.
+-- What stands has an answer or no solution: surely, without computing it. Assumes nothing.
 use mathlib.Core.Path.{_≡_, refl, sym, ap, _∙_}
 use mathlib.Core.Logic.{_⊎_, inl, inr, ⊎-elim, by-cases}
 use mathlib.Core.List.{List, [], _∷_, map}
@@ -9,18 +9,14 @@ use lib.ListN.{length, getD, length-map, List·getD-eq-default}
 use Rattle.meaning.specs.Values.{Has}
 use Rattle.meaning.specs.Rules.{at}
 use Rattle.meaning.specs.Order.{sorted, _≺_}
-use Rattle.meaning.specs.Standing.{Standing, nothing}
-use Rattle.meaning.specs.Lists.{Left, Closed, Within, Largest}
+use Rattle.meaning.specs.Standing.{Standing}
+use Rattle.meaning.specs.Lists.{Left}
 use Rattle.meaning.specs.Solutions.{Solution, Answer, Inconsistent, profile}
-use Rattle.meaning.specs.Calls.{Call, after}
-use Rattle.meaning.specs.Histories.{Leaves, none, call}
 use Rattle.meaning.proofs.Digits.{lt-two-pow, bit-high}
 use Rattle.meaning.proofs.Counting.{reach-none}
 use Rattle.meaning.proofs.Sorting.{sorted-length, sumOf}
 use Rattle.meaning.proofs.Reach.{place-iff}
-use Rattle.meaning.proofs.Largest.{supported-mono}
-use Rattle.meaning.proofs.Solutions.{left-below}
-use Rattle.reply.proofs.Surely.{Surely, known, then, either, lists-of, first-of}
+use Rattle.reply.proofs.Surely.{Surely, known, then, either, first-of}
 
 -- ---- a bound for all declared values
 
@@ -34,40 +30,6 @@ sum-bounds (m ∷ l) (suc x) = omega (arith, sum-bounds l x)
 
 left-bound : (l : List ℕ) (x v : ℕ) → Left l x v → v < sumOf l
 left-bound l x v h = omega (arith, has-below (getD l x 0) v h, sum-bounds l x)
-
--- ---- the values left, and what stands
-
--- the largest lists hold what any closed lists hold
-largest-exists : (w : Standing) → Surely ((L : List ℕ) × Largest w L)
-largest-exists w =
-    then (lists-of (length (w .declared)) (sumOf (w .declared)) Kept below) λ (L, long, is).
-    known (
-      L,
-      record {
-        long = long;
-        within = record {
-          declared = λ x v h. let (K, inside, shut, k) = is x v .0 h in inside .declared x v k;
-          permitted = λ x v h. let (K, inside, shut, k) = is x v .0 h in inside .permitted x v k;
-        };
-        closed = λ r m x i v h.
-            let (K, inside, shut, k) = is x v .0 h in
-            supported-mono {K = K} {L = L} (λ y u l. is y u .1 (K, inside, shut, l)) (shut r m x i v k);
-        most = λ K inside shut x v k. is x v .1 (K, inside, shut, k);
-      },
-    )
-  where
-    Kept : ℕ → ℕ → Type 0
-    Kept x v = (K : List ℕ) × Within w K × Closed (w .rules) K × Left K x v
-
-    below : (x v : ℕ) → Kept x v → (x < length (w .declared)) × (v < sumOf (w .declared))
-    below x v (K, inside, shut, k) = let d = inside .declared x v k in (left-below (w .declared) x v d, left-bound (w .declared) x v d)
-
-pub leaves-exists : (h : List Call) → Surely ((w : Standing) × Leaves h w)
-leaves-exists [] = known (nothing, none)
-leaves-exists (c ∷ h) =
-    then (leaves-exists h) λ (w, l).
-    then (largest-exists w) λ (L, most).
-    known (after w L c, call c l most)
 
 -- ---- larger is better: the best sorted vector is the first of what each lacks
 

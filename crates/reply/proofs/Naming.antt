@@ -2,7 +2,7 @@
 use mathlib.Core.Path.{_≡_, refl, ap}
 use mathlib.Core.Logic.{inr}
 use mathlib.Core.Bool.{false}
-use mathlib.Core.List.{List}
+use mathlib.Core.List.{List, _∷_}
 use Prim.Native.Nat.{ℕ, zero, suc, _+_, _≤_, min}
 use native.Mathlib.Omega.{arith}
 use borrow.Author.Tests.{lt-leb}
@@ -10,15 +10,19 @@ use lib.Dec.{leb}
 use lib.ListN.{length, length-map}
 use Rattle.meaning.specs.Limits.{objectiveLimit}
 use Rattle.meaning.specs.Standing.{Standing}
-use Rattle.meaning.specs.Calls.{nameObjectives, some}
+use Rattle.meaning.specs.Calls.{Call, nameObjectives, some}
 use Rattle.meaning.specs.Histories.{Leaves, AllAccepted}
 use Rattle.meaning.proofs.Tests.{near-both}
 use Rattle.meaning.proofs.Proper.{not-outside}
 use Rattle.meaning.proofs.Histories.{Builds, builds-more, builds}
 use Rattle.reading.specs.Reading.{got}
-use Rattle.wcsp.specs.Files.{File, file, valuesBelow, standingOf}
+use Rattle.wcsp.specs.Files.{File, file, calls, valuesBelow, standingOf}
 use Rattle.wcsp.proofs.Standing.{sizes-bounds, file-builds}
-use Rattle.reply.specs.Replies.{upwards, objectivesOf, named, asked}
+use Rattle.reply.specs.Replies.{upwards, objectivesOf, asked}
+
+-- the file's calls, and then its objectives are named; the latest call first
+abbrev pub named : File → List Call
+named f = nameObjectives (objectivesOf (length (f .sizes))) ∷ calls f
 
 all-known : (n x k : ℕ) → x + k ≤ n → some (leb n) (upwards x k) ≡ false
 unfolding some

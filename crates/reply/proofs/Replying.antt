@@ -7,11 +7,14 @@ use native.Mathlib.Omega.{arith}
 use lib.ListN.{length, length-map}
 use Rattle.meaning.specs.Limits.{variableLimit}
 use Rattle.meaning.specs.Standing.{Standing}
+use Rattle.meaning.specs.Calls.{nameObjectives}
+use Rattle.meaning.specs.Histories.{call}
 use Rattle.meaning.proofs.Proper.{number-above}
 use Rattle.refusals.specs.declared.Refusal.{Refusal}
 use Rattle.state.specs.Holds.{Reached}
 use Rattle.refusals.specs.Numbers.{tableOf}
-use Rattle.state.proofs.Runs.{run-reached}
+use Rattle.state.proofs.Holding.{current}
+use Rattle.state.proofs.Runs.{run-holds, run-reached}
 use Rattle.wcsp.specs.declared.Loaded.{Loaded}
 use Rattle.wcsp.specs.declared.Outcome.the-variants.{Accepted, Refused}
 use Rattle.wcsp.specs.Files.{valuesBelow}
@@ -22,7 +25,7 @@ use Rattle.wcsp.proofs.Standing.{sizes-bounds}
 use Rattle.lines.specs.Lines.{refusedLine}
 use Rattle.lines.specs.Writing.{Written}
 use Rattle.lines.proofs.Putting.{written-fits}
-use Rattle.reply.specs.Replies.{Replies, SolvedLines}
+use Rattle.reply.specs.Replies.{objectivesOf, Tells, Replies, SolvedLines}
 use Rattle.reply.proofs.Naming.{named-stands}
 
 module _ (text : List ℕ) (loaded : Loaded) (reads : Reads text loaded) where
@@ -35,7 +38,7 @@ module _ (text : List ℕ) (loaded : Loaded) (reads : Reads text loaded) where
             let same : _≡_ {A = ℕ × ℕ} (numberOf r, at) (number, spot) = sym said-is ∙ reads .refused number spot q .0 in
             subst (λ (line : List ℕ). Written before line after count)
             (ap₂ refusedLine (is ∙ ap (λ (x : ℕ × ℕ). x .0) same) (ap (λ (x : ℕ × ℕ). x .1) same)) written;
-        accepted = λ f place q w l.
+        accepted = λ f place q.
             let none : numberOf r ≡ 0 = ap (λ (x : ℕ × ℕ). x .0) (sym said-is ∙ reads .accepted f place q .0) in
             absurd (omega (arith, none, number-above (tableOf r)));
       }
@@ -52,9 +55,12 @@ module _ (text : List ℕ) (loaded : Loaded) (reads : Reads text loaded) where
     accepted-replies {before} {after} {count} (solved, fits) = record {
       fits = fits;
       refused = λ number spot q. let (f, place, p) = reads .only (ap said e) in absurd (true≢false (ap isFault (sym q ∙ p)));
-      accepted = λ f place q w l.
+      accepted = λ f place q.
           let (s, n, _, run) = reads .accepted f place q in
-          let is = named-stands text q l .0 in
-          let declared = ap (λ (v : Standing). length (v .declared)) is ∙ length-map (f .sizes) valuesBelow in
-          subst (λ (m : ℕ). SolvedLines (loaded .state) m before after count) n solved _ w run l declared (ap (λ (v : Standing). v .objectives) is);
+          let (w, l, hold) = run-holds run in
+          let now = call (nameObjectives (objectivesOf (length (f .sizes)))) l (current hold) in
+          let is = named-stands text q now .0 in
+          let lines = subst (λ (m : ℕ). SolvedLines (loaded .state) m before after count) n solved in
+          subst (λ (v : Standing). Tells v before after count) is
+          (lines _ _ run now (ap (λ (v : Standing). length (v .declared)) is ∙ length-map (f .sizes) valuesBelow) (ap (λ (v : Standing). v .objectives) is));
     }

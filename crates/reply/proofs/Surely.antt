@@ -1,16 +1,13 @@
 -- What cannot fail to be so. Numbers and lists that surely are equal are equal, so what they depend on need not be computed: it is enough
 -- that it surely exists. Assumes nothing.
-use mathlib.Core.Path.{_≡_, refl, sym, ap, subst, _∙_}
-use mathlib.Core.Logic.{_⊎_, inl, inr, ⊎-elim, _↔_}
+use mathlib.Core.Path.{_≡_, ap, subst}
+use mathlib.Core.Logic.{_⊎_, inl, inr, ⊎-elim}
 use mathlib.Core.List.{List, [], _∷_}
-use Prim.Native.Nat.{ℕ, zero, suc, _+_, _*_, _/_, _≤_, _<_}
+use Prim.Native.Nat.{ℕ, zero, suc, _≤_, _<_}
 use native.Mathlib.Nat.{le-refl}
 use native.Mathlib.Omega.{arith}
 use lib.ListN.{length}
-use Rattle.meaning.specs.Values.{bit, Has}
 use Rattle.meaning.specs.Order.{_≺_}
-use Rattle.meaning.specs.Lists.{Left}
-use Rattle.meaning.proofs.Digits.{bit-zero, bit-suc, zero-bit}
 
 abbrev pub Surely : Type 0 → Type 0
 Surely A = ¬ (¬ A)
@@ -28,39 +25,6 @@ either A n = n (inr (λ a. n (inl a)))
 pub settled : {A : Type 0} → Dec A → Surely A → A
 settled (yes a) s = a
 settled (no n) s = absurd (s n)
-
--- ---- sets and lists of just the values that have a property
-
--- a set with the digit c first, then m's
-module _ (P : ℕ → Type 0) (m c : ℕ) (small : c < 2) (low : (c ≡ 1) ↔ P 0) (high : (v : ℕ) → Has m v ↔ P (suc v)) where
-  digits : (v : ℕ) → bit (c + 2 * m) (suc v) ≡ bit m v
-  digits v = let e : (c + 2 * m) / 2 ≡ m = omega arith in bit-suc (c + 2 * m) v ∙ ap (λ (x : ℕ). bit x v) e
-
-  more : (v : ℕ) → Has (c + 2 * m) v ↔ P v
-  more zero = (λ h. low .0 (omega (arith, bit-zero (c + 2 * m))), λ p. bit-zero (c + 2 * m) ∙ omega (arith, low .1 p))
-  more (suc v) = (λ h. high v .0 (sym (digits v) ∙ h), λ p. digits v ∙ high v .1 p)
-
-pub set-of : (top : ℕ) (P : ℕ → Type 0) → ((v : ℕ) → P v → v < top) → Surely ((m : ℕ) × ((v : ℕ) → Has m v ↔ P v))
-set-of zero P below = known (0, λ v. (λ h. absurd (omega (arith, zero-bit v)), λ p. absurd (omega (arith, below v p))))
-set-of (suc top) P below =
-    then (set-of top (λ v. P (suc v)) (λ v p. omega (arith, below (suc v) p))) λ (m, high).
-    then (either (P 0)) (⊎-elim
-    (λ p. known (1 + 2 * m, more P m 1 (omega arith) (λ e. p, λ q. refl) high))
-    (λ n. known (0 + 2 * m, more P m 0 (omega arith) (λ e. absurd (omega arith), λ p. absurd (n p)) high)))
-
-pub lists-of : (n top : ℕ) (P : ℕ → ℕ → Type 0) → ((x v : ℕ) → P x v → (x < n) × (v < top))
-    → Surely ((L : List ℕ) × (length L ≡ n) × ((x v : ℕ) → Left L x v ↔ P x v))
-lists-of zero top P below =
-    known ([], refl, λ x v. (λ h. absurd (omega (arith, zero-bit v)), λ p. absurd (omega (arith, below x v p .0))))
-lists-of (suc n) top P below =
-    then (set-of top (P 0) (λ v p. below 0 v p .1)) λ (m, first).
-    then (lists-of n top (λ x. P (suc x)) (λ x v p. (omega (arith, below (suc x) v p .0), below (suc x) v p .1))) λ (L, long, rest).
-    known (m ∷ L, ap suc long, join m L first rest)
-  where
-    join : (m : ℕ) (L : List ℕ) → ((v : ℕ) → Has m v ↔ P 0 v) → ((x v : ℕ) → Left L x v ↔ P (suc x) v)
-        → (x v : ℕ) → Left (m ∷ L) x v ↔ P x v
-    join m L first rest zero v = first v
-    join m L first rest (suc x) v = rest x v
 
 -- ---- the least number, and the first list, with a property
 

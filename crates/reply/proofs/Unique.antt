@@ -12,9 +12,9 @@ use Rattle.reading.specs.Reading.{Reading, fault, got}
 use Rattle.wcsp.specs.Files.{File, file}
 use Rattle.lines.specs.Writing.{Written}
 use Rattle.lines.proofs.Unique.{written-unique}
-use Rattle.reply.specs.Replies.{Tells, Replies, Answers, named, textLimit}
+use Rattle.reply.specs.Replies.{Tells, Replies, Answers, asked, textLimit}
 use Rattle.reply.proofs.Surely.{Surely, known, then, settled}
-use Rattle.reply.proofs.Existing.{leaves-exists, answer-exists}
+use Rattle.reply.proofs.Existing.{answer-exists}
 
 abbrev Same : ℕ → ℕ → List ℕ → List ℕ → Type 0
 Same m n a b = (m ≡ n) × (a ≡ b)
@@ -37,10 +37,7 @@ module _ {before a b : List ℕ} {m n : ℕ} where
       by-reading : (r : Reading File) → file text ≡ r → Same m n a b
       by-reading (fault number at) e = written-same (x .refused number at e) (y .refused number at e)
       by-reading (got f place) e =
-          same-settled
-          (then (leaves-exists (named f)) λ (w, l).
-          then (answer-exists w) λ c.
-          known (tells-same w (x .accepted f place e w l) (y .accepted f place e w l) c))
+          same-settled (then (answer-exists (asked f)) λ c. known (tells-same (asked f) (x .accepted f place e) (y .accepted f place e) c))
 
   pub answer-unique : {text : List ℕ} → Answers text before a m → Answers text before b n → (m ≡ n) × (a ≡ b)
   answer-unique {text} x y =

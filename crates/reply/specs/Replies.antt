@@ -12,7 +12,7 @@ use Rattle.meaning.specs.Histories.{Leaves}
 use Rattle.state.specs.declared.State.{State}
 use Rattle.state.specs.Runs.{Run}
 use Rattle.reading.specs.Reading.{fault, got}
-use Rattle.wcsp.specs.Files.{File, file, calls, standingOf}
+use Rattle.wcsp.specs.Files.{File, file, standingOf}
 use Rattle.lines.specs.Lines.{tooLongLine, inconsistentLine, refusedLine, foundLines}
 use Rattle.lines.specs.Writing.{Written}
 
@@ -25,11 +25,7 @@ upwards x (suc k) = x ∷ upwards (x + 1) k
 abbrev pub objectivesOf : ℕ → List ℕ
 objectivesOf n = upwards 0 (min n objectiveLimit)
 
--- the file's calls, and then its objectives are named; the latest call first
-abbrev pub named : File → List Call
-named f = nameObjectives (objectivesOf (length (f .sizes))) ∷ calls f
-
--- what these leave standing: the file's variables and tables, and these objectives
+-- what is to be solved: the file's variables and tables, with these objectives
 abbrev pub asked : File → Standing
 asked f = accepted (standingOf f) (nameObjectives (objectivesOf (length (f .sizes))))
 
@@ -41,7 +37,7 @@ pub record Tells (w : Standing) (before after : List ℕ) (count : ℕ) : Type 0
 pub record Replies (text before after : List ℕ) (count : ℕ) : Type 0 where
   pub fits : count ≤ length after
   pub refused : (number at : ℕ) → file text ≡ fault number at → Written before (refusedLine number at) after count
-  pub accepted : (f : File) (place : ℕ) → file text ≡ got f place → (w : Standing) → Leaves (named f) w → Tells w before after count
+  pub accepted : (f : File) (place : ℕ) → file text ≡ got f place → Tells (asked f) before after count
 
 -- the most bytes that the program reads
 abbrev pub textLimit : ℕ

@@ -1,7 +1,7 @@
 -- A rule more: the state is laid out with it, the lists follow, and what stands with it is held. Assumes nothing.
 use mathlib.Core.Path.{_≡_, refl, ap, _∙_}
 use mathlib.Core.List.{List, [], _∷_, _++_, map}
-use Prim.Native.Nat.{ℕ, _+_, _-_, _*_, _/_, _≤_, _<_}
+use Prim.Native.Nat.{ℕ, _+_, _*_, _/_, _≤_, _<_}
 use native.Mathlib.Nat.{div-add-mod', mul-comm, mul-le-mul-left, mul-one}
 use native.Mathlib.Omega.{arith}
 use lib.IntN.{ℤ}
@@ -10,7 +10,7 @@ use Rattle.meaning.specs.Limits.{ruleLimit, roomLimit, coefficientLimit, boundL
 use Rattle.meaning.specs.Rules.{Rule, linear, scopeOf, room}
 use Rattle.meaning.specs.Standing.{Standing}
 use Rattle.meaning.specs.Calls as Calls
-use Rattle.meaning.specs.Calls.{Call, tuplesOf, ruleOf, held, withRule, refusal, accepted}
+use Rattle.meaning.specs.Calls.{Call, tuplesOf, ruleOf, withRule, refusal, accepted}
 use Rattle.meaning.specs.Histories.{call}
 use Rattle.meaning.specs.Proper.{Proper}
 use Rattle.meaning.proofs.Histories.{after-accepted}

@@ -7,7 +7,6 @@ use Rattle.blocks.proofs.Arrays.{array-fits}
 use Rattle.filters.specs.Layout.{rulesAt}
 use Rattle.search.proofs.Taking.{given-known}
 use Rattle.leximin.proofs.Climbs.{Underway, ahead, names, begins, begins-none, ends, small, rises, rises-less, goes-on, goes-on-less}
-use borrow.Author.Needs.{needs}
 use Rattle.leximin.proofs.best.Statement.{statement}
 use Rattle.leximin.proofs.best.Tie as tie
 
