@@ -1,4 +1,6 @@
 // The eight vectors of document 000, example 1, three numbers each; and, as its contract, document 01's cases P1 to P12.
+#![tactic(auto)]
+
 ghost use Rattle.cases.specs.Table.{Cases};
 
 pub const EIGHT: [u8; 24] = [

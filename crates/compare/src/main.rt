@@ -1,5 +1,6 @@
 // Holds the library against a second solver on random small networks: each gets the same calls from both, and whatever
 // differs is counted.
+#![tactic(auto)]
 ghost use Rattle.state.specs.Holds.{Reached};
 
 mod arguments;

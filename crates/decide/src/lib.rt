@@ -1,4 +1,5 @@
 // Pins, bans, taking back, and the values left.
+#![tactic(auto)]
 ghost use Rattle.std.specs.Prelude.{◌<◌, ◌≤◌};
 ghost use Rattle.meaning.specs.Limits.{decision_limit};
 ghost use Rattle.state.specs.Holds.{Reached};

@@ -1,4 +1,6 @@
 // The lines that the program writes (document 01), at the start of a lent buffer. Each function answers how many bytes it wrote.
+#![tactic(auto)]
+
 ghost use Rattle.std.specs.Prelude.{◌∷◌, [], ◌+◌, ◌≤◌, ◌<◌, length};
 ghost use Rattle.lines.specs.Lines.{decimal, field, numbers};
 ghost use Rattle.lines.specs.Writing.{Put};

@@ -53,7 +53,7 @@ among_mem (y ∷ d) x t = step (eqb x y) (eqb→eq x y) (among_mem d x) t
     step true e ih t = Memᴰ.head (e tt)
     step false e ih t = Memᴰ.tail (ih t)
 
-pub mem_among : {d : List ℕ} {x : ℕ} → Memᴰ x d → T (among d x)
+pub mem_among : {x : ℕ} {d : List ℕ} → Memᴰ x d → T (among d x)
 mem_among {x} (Memᴰ.head {x = y} {xs = d} e) = or_left (eqb x y) (among d x) (eq-eqb e)
 mem_among {x} (Memᴰ.tail {x = y} {xs = d} m) = or_right (eqb x y) (among d x) (mem_among m)
 
@@ -87,7 +87,7 @@ map_mem x (s ∷ ts) {t} m = step (map_mem x ts) (Memᴰ.cases_cons m)
     step ih (inl e) = (s, e, Memᴰ.head refl)
     step ih (inr k) = let w = ih k in (w.0, w.1, Memᴰ.tail w.2)
 
-mem_map : {x : ℕ} {ts : List (List ℕ)} {r t : List ℕ} → t ≡ x ∷ r → Memᴰ r ts → Memᴰ t (map (λ t. x ∷ t) ts)
+mem_map : {x : ℕ} {r : List ℕ} {ts : List (List ℕ)} {t : List ℕ} → t ≡ x ∷ r → Memᴰ r ts → Memᴰ t (map (λ t. x ∷ t) ts)
 mem_map {x} e (Memᴰ.head {x = s} q) = Memᴰ.head {x = x ∷ s} (cc)
 mem_map e (Memᴰ.tail m) = Memᴰ.tail (mem_map e m)
 
@@ -103,7 +103,7 @@ fan_mem (x ∷ d) ts {t} m = step (fan_mem d ts) (Memᴰ.append_cases (map (λ t
     step ih (inl k) = let w = map_mem x ts k in (x, w.0, w.1, Memᴰ.head refl, w.2)
     step ih (inr k) = let w = ih k in (w.0, w.1, w.2, Memᴰ.tail w.3, w.4)
 
-mem_fan : {d : List ℕ} (ts : List (List ℕ)) {x : ℕ} {r : List ℕ} → Memᴰ x d → Memᴰ r ts → Memᴰ (x ∷ r) (fan d ts)
+mem_fan : {x : ℕ} {d : List ℕ} (ts : List (List ℕ)) {r : List ℕ} → Memᴰ x d → Memᴰ r ts → Memᴰ (x ∷ r) (fan d ts)
 unfolding fan
 mem_fan ts (Memᴰ.head {x = z} {xs = d} e) k = Memᴰ.append_left (fan d ts) (mem_map (cc) k)
 mem_fan ts (Memᴰ.tail {x = z} m) k = Memᴰ.append_right (map (λ t. z ∷ t) ts) (mem_fan ts m k)

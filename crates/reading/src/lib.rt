@@ -1,4 +1,5 @@
 // Reading a text left to right: the next number or name, with the tests that it has to pass.
+#![tactic(auto)]
 ghost use Rattle.reading.specs.Promises.{ComesToAnyNumber, ComesToNumberWithin, ComesToNumberBelow, ComesToName, ComesToEnd};
 
 use refusals::Refusal;

@@ -1,4 +1,6 @@
 // Document 01's table of refusals, with their numbers, and the answer of a call.
+#![tactic(auto)]
+
 ghost use Rattle.refusals.specs.Numbers.{IsNumberOf};
 
 #[derive(Drop)]

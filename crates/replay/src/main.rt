@@ -1,4 +1,5 @@
 // Reads a script of calls from standard input, one to a line, and writes a line for each: what the library answers.
+#![tactic(auto)]
 ghost use Rattle.std.specs.Prelude.{◌≡◌, ◌≤◌, length};
 ghost use Rattle.state.specs.Holds.{Reached};
 

@@ -1,4 +1,5 @@
 // Runs the program's library on each file that an argument names, and writes the name and the answer.
+#![tactic(auto)]
 ghost use Rattle.std.specs.Prelude.{◌≡◌, length};
 
 use lines::LINES;

@@ -1,4 +1,5 @@
 // The search: the first rota of what stands whose objectives reach some thresholds.
+#![tactic(auto)]
 mod choices;
 mod nodes;
 mod spreading;

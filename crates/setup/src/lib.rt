@@ -1,4 +1,5 @@
 // A new state, its variables, and the objectives.
+#![tactic(auto)]
 ghost use Rattle.std.specs.Prelude.{◌≡◌, ◌≤◌, length};
 ghost use Rattle.meaning.specs.Limits.{objective_limit};
 ghost use Rattle.filters.specs.Layout.{padded};

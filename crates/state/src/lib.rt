@@ -1,4 +1,5 @@
 // The rota state, and adding rules to it.
+#![tactic(auto)]
 mod adding;
 mod writing;
 

@@ -12,6 +12,3 @@ pub mod Unique
 pub mod Faults
 pub mod Cases
 pub mod TokenKinds
-pub mod HandedOn
-pub mod TakenApart
-pub mod PutTogether

@@ -1,4 +1,6 @@
 // Text for every reader, by document 01's "Reading wcsp": the sorts of bytes, tokens, numbers and names.
+#![tactic(auto)]
+
 mod bytes;
 mod reading;
 mod tokens;

@@ -1,4 +1,6 @@
 // Tuples of values: whether two are the same, whether one is listed, and keys that show fast that it is not.
+#![tactic(auto)]
+
 ghost use Rattle.tuples.specs.Keys.{KeyOf};
 ghost use Rattle.tuples.specs.Rows.{AreSame, IsListed};
 

@@ -1,4 +1,6 @@
 // Sets of the values 0 to 63: the value v is in m where m's binary digit v is 1. No value of 64 or more is in any set.
+#![tactic(auto)]
+
 ghost use Rattle.values.specs.Sets.{Tells, Alone, Removed, Added, Shared, Less, Lowest, Highest, Dropped, Counts, AtOrAbove, First, TellsSingle};
 
 // A value is below it. It also stands for "no value".
