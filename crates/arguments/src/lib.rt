@@ -1,5 +1,6 @@
 // What the calls of document 01 test their arguments for.
 #![tactic(auto)]
+
 ghost use Rattle.std.specs.Prelude.{◌+◌, ◌≤◌, ◌≡◌, leb, length};
 ghost use Rattle.meaning.specs.Limits.{coefficient_limit};
 ghost use Rattle.meaning.specs.Calls.{some, beyond};

@@ -1,5 +1,6 @@
 // The 33 blocks of lists that a state keeps: block k holds the values left to each variable after k decisions.
 #![tactic(auto)]
+
 ghost use Rattle.blocks.specs.Keeping.{KeptIn};
 ghost use Rattle.blocks.specs.Blocks.{ListOf, Copied, PutLists, ClearedAfter};
 

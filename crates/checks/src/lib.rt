@@ -1,5 +1,6 @@
 // What the additions of rules are refused for, in document 01's order.
 #![tactic(auto)]
+
 ghost use Rattle.std.specs.Prelude.{◌≡◌, ◌||◌, ◌+◌, leb, ltb};
 ghost use Rattle.meaning.specs.Limits.{rule_limit, room_limit};
 ghost use Rattle.checks.specs.Tests.{TestsTable, TestsLinear};

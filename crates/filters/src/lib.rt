@@ -1,5 +1,6 @@
 // Dropping the values that have no support in a rule, and in all rules.
 #![tactic(auto)]
+
 mod allowed;
 mod forbidden;
 mod linear;
