@@ -1,5 +1,6 @@
 // The rota state, and adding rules to it.
 #![tactic(auto)]
+
 mod adding;
 mod writing;
 
@@ -7,7 +8,7 @@ pub use adding::{add_linear, add_table};
 use refusals::Answer;
 
 // What stands, laid out in flat arrays: counts, and zeros past them.
-#[derive(Drop)]
+#[derive(Clone, Copy)]
 pub struct State {
     pub variables: usize,
     // a set of values for each variable
