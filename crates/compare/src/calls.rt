@@ -21,7 +21,7 @@ pub(crate) const TAKE_BACK: u8 = 7;
 pub(crate) const INCONSISTENT: u8 = 100;
 
 // The arguments of every kind of call; those that a kind has no use for are 0.
-#[derive(Drop)]
+#[derive(Clone, Copy)]
 pub(crate) struct Call {
     pub kind: u8,
     pub marks: u64,

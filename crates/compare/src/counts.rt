@@ -125,77 +125,78 @@ fn counted(counts: &[u64; KINDS], kind: usize) -> u64 {
 }
 
 // Writes every count.
-pub(crate) fn write_counts(counts: &[u64; KINDS]) {
-    write_count(counts, b"networks ", NETWORKS);
-    write_count(counts, b"at the limits ", CROWDED);
-    write_count(counts, b"calls ", CALLS);
-    write_count(counts, b"lists compared ", LISTS);
-    write_count(counts, b"solved ", SOLVED);
-    write_count(counts, b"found ", FOUND);
-    write_count(counts, b"inconsistent ", NONE_FOUND);
-    write_tables(counts);
-    write_others(counts);
-    write_refused(counts);
-    write_count(counts, b"differences ", DIFFERENCES);
+pub(crate) fn write_counts(rt: &impl Print, counts: &[u64; KINDS]) {
+    write_count(rt, counts, b"networks ", NETWORKS);
+    write_count(rt, counts, b"at the limits ", CROWDED);
+    write_count(rt, counts, b"calls ", CALLS);
+    write_count(rt, counts, b"lists compared ", LISTS);
+    write_count(rt, counts, b"solved ", SOLVED);
+    write_count(rt, counts, b"found ", FOUND);
+    write_count(rt, counts, b"inconsistent ", NONE_FOUND);
+    write_tables(rt, counts);
+    write_others(rt, counts);
+    write_refused(rt, counts);
+    write_count(rt, counts, b"differences ", DIFFERENCES);
 }
 
 // Writes the accepted variables and tables.
-fn write_tables(counts: &[u64; KINDS]) {
-    write_count(counts, b"variables ", KIND);
-    write_count(counts, b"variables with an empty set ", EMPTY_SET);
-    write_count(counts, b"allowing tables ", KIND + 1);
-    write_count(counts, b"forbidding tables ", KIND + 2);
-    write_count(counts, b"tables without tuples ", EMPTY_TABLE);
-    write_count(counts, b"tables with undeclared values ", UNDECLARED);
+fn write_tables(rt: &impl Print, counts: &[u64; KINDS]) {
+    write_count(rt, counts, b"variables ", KIND);
+    write_count(rt, counts, b"variables with an empty set ", EMPTY_SET);
+    write_count(rt, counts, b"allowing tables ", KIND + 1);
+    write_count(rt, counts, b"forbidding tables ", KIND + 2);
+    write_count(rt, counts, b"tables without tuples ", EMPTY_TABLE);
+    write_count(rt, counts, b"tables with undeclared values ", UNDECLARED);
 }
 
 // Writes the other accepted calls.
-fn write_others(counts: &[u64; KINDS]) {
-    write_count(counts, b"linear rules ", KIND + 3);
+fn write_others(rt: &impl Print, counts: &[u64; KINDS]) {
+    write_count(rt, counts, b"linear rules ", KIND + 3);
     write_count(
+        rt,
         counts,
         b"linear rules with a negative coefficient ",
         NEGATIVE,
     );
-    write_count(counts, b"linear rules with a zero coefficient ", ZERO);
-    write_count(counts, b"objective vectors ", KIND + 4);
-    write_count(counts, b"objective vectors with a repeat ", REPEATED);
-    write_count(counts, b"pins ", KIND + 5);
-    write_count(counts, b"bans ", KIND + 6);
-    write_count(counts, b"take-backs ", KIND + 7);
+    write_count(rt, counts, b"linear rules with a zero coefficient ", ZERO);
+    write_count(rt, counts, b"objective vectors ", KIND + 4);
+    write_count(rt, counts, b"objective vectors with a repeat ", REPEATED);
+    write_count(rt, counts, b"pins ", KIND + 5);
+    write_count(rt, counts, b"bans ", KIND + 6);
+    write_count(rt, counts, b"take-backs ", KIND + 7);
 }
 
 // Writes how often each number was given.
-fn write_refused(counts: &[u64; KINDS]) {
+fn write_refused(rt: &impl Print, counts: &[u64; KINDS]) {
     let mut number: usize = 1;
     while number < 14 {
-        io::write_all(libc::STDOUT_FILENO, b"refused ");
-        write_number(number as u64);
-        write_count(counts, b": ", number);
+        let _ = rt.write_all(b"refused ");
+        write_number(rt, number as u64);
+        write_count(rt, counts, b": ", number);
         number += 1;
     }
 }
 
 // A line with a name and a count behind it.
-fn write_count(counts: &[u64; KINDS], name: &[u8], kind: usize) {
-    io::write_all(libc::STDOUT_FILENO, name);
-    write_number(counted(counts, kind));
-    io::write_all(libc::STDOUT_FILENO, b"\n");
+fn write_count(rt: &impl Print, counts: &[u64; KINDS], name: &[u8], kind: usize) {
+    let _ = rt.write_all(name);
+    write_number(rt, counted(counts, kind));
+    let _ = rt.write_all(b"\n");
 }
 
 // Writes a number below 1,000,000,000,000 in decimal.
-fn write_number(number: u64) {
+fn write_number(rt: &impl Print, number: u64) {
     let mut power: u64 = 100_000_000_000;
     while 0 < power {
         if power <= number || power == 1 {
-            write_digit(number / power);
+            write_digit(rt, number / power);
         }
         power = power / 10;
     }
 }
 
 // Writes the last digit of a number.
-fn write_digit(number: u64) {
+fn write_digit(rt: &impl Print, number: u64) {
     let digit = [48 + (number % 10) as u8];
-    io::write_all(libc::STDOUT_FILENO, &digit);
+    let _ = rt.write_all(&digit);
 }

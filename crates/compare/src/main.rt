@@ -1,6 +1,7 @@
 // Holds the library against a second solver on random small networks: each gets the same calls from both, and whatever
 // differs is counted.
 #![tactic(auto)]
+
 ghost use Rattle.state.specs.Holds.{Reached};
 
 mod arguments;
@@ -28,7 +29,7 @@ use state::State;
 const NETWORKS: u64 = 4000;
 
 // What stands on both sides, and what was counted.
-#[derive(Drop)]
+#[derive(Clone, Copy)]
 struct Run {
     state: State,
     record: Record,
@@ -230,7 +231,7 @@ fn compare_networks(many: u64) -> [u64; KINDS] {
     counts
 }
 
-fn main() {
+fn main(rt: HostRuntime) {
     let counts = compare_networks(NETWORKS);
-    counts::write_counts(&counts);
+    counts::write_counts(&rt, &counts);
 }

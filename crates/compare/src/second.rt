@@ -6,7 +6,7 @@ use crate::second_checks::tested;
 
 // A rule's numbers stand in the room from its start on: its variables, then its tuples, or its coefficients each as twice
 // its size, and one more if it is below zero.
-#[derive(Drop)]
+#[derive(Clone, Copy)]
 pub(crate) struct Rule {
     pub sort: u8,
     pub arity: usize,
@@ -16,7 +16,7 @@ pub(crate) struct Rule {
     pub bound_minus: bool,
 }
 
-#[derive(Drop)]
+#[derive(Clone, Copy)]
 pub(crate) struct Record {
     pub variables: usize,
     pub declared: [u64; SHORT],

@@ -1,5 +1,6 @@
 // What the costs in a file say: 0 allows, and any other forbids.
 #![tactic(auto)]
+
 ghost use Rattle.costs.specs.Costs.{SaysSame, SaysSort};
 
 use state::Sort;

@@ -1,5 +1,6 @@
 // Pins, bans, taking back, and the values left.
 #![tactic(auto)]
+
 ghost use Rattle.std.specs.Prelude.{◌<◌, ◌≤◌};
 ghost use Rattle.meaning.specs.Limits.{decision_limit};
 ghost use Rattle.state.specs.Holds.{Reached};

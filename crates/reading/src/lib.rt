@@ -1,5 +1,6 @@
 // Reading a text left to right: the next number or name, with the tests that it has to pass.
 #![tactic(auto)]
+
 ghost use Rattle.reading.specs.Promises.{ComesToAnyNumber, ComesToNumberWithin, ComesToNumberBelow, ComesToName, ComesToEnd};
 
 use refusals::Refusal;
@@ -13,6 +14,7 @@ pub enum Step {
 }
 
 // Any number.
+#[tactic(auto, unfolding(crate::specs::Reading::number, meaning::specs::Refusals::first))]
 pub fn any_number(text: &[u8], at: usize) -> Step
     ensures { ComesToAnyNumber text.now at result }
 {
@@ -28,6 +30,7 @@ pub fn any_number(text: &[u8], at: usize) -> Step
 }
 
 // A number from low to high.
+#[tactic(auto, unfolding(crate::specs::Reading::number, meaning::specs::Refusals::first))]
 pub fn number_within(
     text: &[u8],
     at: usize,
@@ -59,6 +62,7 @@ pub fn number_within(
 }
 
 // A number below the limit.
+#[tactic(auto, unfolding(crate::specs::Reading::number, meaning::specs::Refusals::first))]
 pub fn number_below(text: &[u8], at: usize, limit: usize, above: Refusal) -> Step
     ensures { ComesToNumberBelow text.now at limit above result }
 {
@@ -80,6 +84,7 @@ pub fn number_below(text: &[u8], at: usize, limit: usize, above: Refusal) -> Ste
 }
 
 // A name; nothing of it is kept.
+#[tactic(auto, unfolding(crate::specs::Reading::name))]
 pub fn skip_name(text: &[u8], at: usize) -> Step
     ensures { ComesToName text.now at result }
 {
@@ -91,6 +96,7 @@ pub fn skip_name(text: &[u8], at: usize) -> Step
 }
 
 // No token is left.
+#[tactic(auto, unfolding(crate::specs::Reading::ended))]
 pub fn read_end(text: &[u8], at: usize) -> Step
     ensures { ComesToEnd text.now at result }
 {

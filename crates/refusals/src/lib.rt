@@ -3,7 +3,7 @@
 
 ghost use Rattle.refusals.specs.Numbers.{IsNumberOf};
 
-#[derive(Drop)]
+#[derive(Clone, Copy)]
 pub enum Refusal {
     NoSuchVariable,
     VariableTwice,
@@ -21,7 +21,7 @@ pub enum Refusal {
 }
 
 // What a call answers.
-#[derive(Drop)]
+#[derive(Clone, Copy)]
 pub enum Answer {
     Accepted,
     Refused(Refusal),

@@ -10,7 +10,7 @@ use crate::words::{is_word, next_word};
 use state::Sort;
 
 // `var HEXMASK`
-pub(crate) fn add_variable(desk: Desk, line: &[u8], at: usize) -> Desk
+pub(crate) fn add_variable(rt: &impl Print, desk: Desk, line: &[u8], at: usize) -> Desk
     requires { Reached desk.state × (at ≤ length line.now) }
     ensures { Reached result.state }
 {
@@ -21,7 +21,7 @@ pub(crate) fn add_variable(desk: Desk, line: &[u8], at: usize) -> Desk
     let after = setup::add_variable(desk.state, mask.value);
     let answer = after.answer;
     let state = after.state;
-    saying::answered(answer);
+    saying::answered(rt, answer);
     Desk {
         state,
         variables: counted(desk.variables, answer),
@@ -30,23 +30,23 @@ pub(crate) fn add_variable(desk: Desk, line: &[u8], at: usize) -> Desk
 }
 
 // `table allow|forbid VARIABLES.. : CELLS..`
-pub(crate) fn add_table(desk: Desk, line: &[u8], at: usize) -> Desk
+pub(crate) fn add_table(rt: &impl Print, desk: Desk, line: &[u8], at: usize) -> Desk
     requires { Reached desk.state × (at ≤ length line.now) }
     ensures { Reached result.state }
 {
     let word = next_word(line, at);
     let end = word.end;
     if is_word(line, word, b"allow") {
-        return read_table(desk, Sort::Allow, line, end);
+        return read_table(rt, desk, Sort::Allow, line, end);
     }
     if is_word(line, word, b"forbid") {
-        return read_table(desk, Sort::Forbid, line, end);
+        return read_table(rt, desk, Sort::Forbid, line, end);
     }
     stopped(desk)
 }
 
 // The rest of such a line: `VARIABLES.. : CELLS..`
-fn read_table(desk: Desk, sort: Sort, line: &[u8], at: usize) -> Desk
+fn read_table(rt: &impl Print, desk: Desk, sort: Sort, line: &[u8], at: usize) -> Desk
     requires { Reached desk.state × (at ≤ length line.now) }
     ensures { Reached result.state }
 {
@@ -59,21 +59,21 @@ fn read_table(desk: Desk, sort: Sort, line: &[u8], at: usize) -> Desk
     }
     let arity = variables.count;
     let count = values.count;
-    table_added(desk, sort, &scope[..arity], &cells[..count])
+    table_added(rt, desk, sort, &scope[..arity], &cells[..count])
 }
 
-fn table_added(desk: Desk, sort: Sort, scope: &[u8], cells: &[u8]) -> Desk
+fn table_added(rt: &impl Print, desk: Desk, sort: Sort, scope: &[u8], cells: &[u8]) -> Desk
     requires { Reached desk.state }
     ensures { Reached result.state }
 {
     let after = state::add_table(desk.state, sort, scope, cells);
     let answer = after.answer;
-    saying::answered(answer);
+    saying::answered(rt, answer);
     with_state(desk, after.state)
 }
 
 // `linear VARIABLES.. : COEFFICIENTS.. : BOUND`
-pub(crate) fn add_linear(desk: Desk, line: &[u8], at: usize) -> Desk
+pub(crate) fn add_linear(rt: &impl Print, desk: Desk, line: &[u8], at: usize) -> Desk
     requires { Reached desk.state × (at ≤ length line.now) }
     ensures { Reached result.state }
 {
@@ -87,21 +87,27 @@ pub(crate) fn add_linear(desk: Desk, line: &[u8], at: usize) -> Desk
     }
     let arity = variables.count;
     let count = terms.count;
-    linear_added(desk, &scope[..arity], &coefficients[..count], bound.value)
+    linear_added(
+        rt,
+        desk,
+        &scope[..arity],
+        &coefficients[..count],
+        bound.value,
+    )
 }
 
-fn linear_added(desk: Desk, scope: &[u8], coefficients: &[i32], bound: i32) -> Desk
+fn linear_added(rt: &impl Print, desk: Desk, scope: &[u8], coefficients: &[i32], bound: i32) -> Desk
     requires { Reached desk.state }
     ensures { Reached result.state }
 {
     let after = state::add_linear(desk.state, scope, coefficients, bound);
     let answer = after.answer;
-    saying::answered(answer);
+    saying::answered(rt, answer);
     with_state(desk, after.state)
 }
 
 // `obj VARIABLES..`
-pub(crate) fn name_objectives(desk: Desk, line: &[u8], at: usize) -> Desk
+pub(crate) fn name_objectives(rt: &impl Print, desk: Desk, line: &[u8], at: usize) -> Desk
     requires { Reached desk.state × (at ≤ length line.now) }
     ensures { Reached result.state }
 {
@@ -111,15 +117,15 @@ pub(crate) fn name_objectives(desk: Desk, line: &[u8], at: usize) -> Desk
         return stopped(desk);
     }
     let count = variables.count;
-    objectives_named(desk, &named[..count])
+    objectives_named(rt, desk, &named[..count])
 }
 
-fn objectives_named(desk: Desk, variables: &[u8]) -> Desk
+fn objectives_named(rt: &impl Print, desk: Desk, variables: &[u8]) -> Desk
     requires { Reached desk.state }
     ensures { Reached result.state }
 {
     let after = setup::name_objectives(desk.state, variables);
     let answer = after.answer;
-    saying::answered(answer);
+    saying::answered(rt, answer);
     with_state(desk, after.state)
 }

@@ -11,7 +11,7 @@ use decide::Left;
 use leximin::Solved;
 
 // `left VARIABLE`
-pub(crate) fn values_left(desk: Desk, line: &[u8], at: usize) -> Desk
+pub(crate) fn values_left(rt: &impl Print, desk: Desk, line: &[u8], at: usize) -> Desk
     requires { Reached desk.state × (at ≤ length line.now) }
     ensures { Reached result.state }
 {
@@ -21,8 +21,8 @@ pub(crate) fn values_left(desk: Desk, line: &[u8], at: usize) -> Desk
     }
     let left = decide::values_left(desk.state, variable.value as u8);
     match left {
-        Left::Values(mask) => saying::left(mask),
-        Left::Refused(refusal) => saying::refused(refusal),
+        Left::Values(mask) => saying::left(rt, mask),
+        Left::Refused(refusal) => saying::refused(rt, refusal),
     }
     desk
 }
@@ -31,7 +31,7 @@ pub(crate) fn values_left(desk: Desk, line: &[u8], at: usize) -> Desk
 const PLACES: usize = 64;
 
 // `solve LENGTH`
-pub(crate) fn solve(desk: Desk, line: &[u8], at: usize) -> Desk
+pub(crate) fn solve(rt: &impl Print, desk: Desk, line: &[u8], at: usize) -> Desk
     requires { Reached desk.state × (at ≤ length line.now) }
     ensures { Reached result.state }
 {
@@ -44,9 +44,9 @@ pub(crate) fn solve(desk: Desk, line: &[u8], at: usize) -> Desk
     let solved = leximin::solve(desk.state, &mut buffer[..places]);
     let count = at_most_all(desk.variables);
     match solved {
-        Solved::Found => say_found(&buffer, count),
-        Solved::Inconsistent => saying::say(b"inconsistent\n"),
-        Solved::Refused(refusal) => saying::refused(refusal),
+        Solved::Found => say_found(rt, &buffer, count),
+        Solved::Inconsistent => saying::say(rt, b"inconsistent\n"),
+        Solved::Refused(refusal) => saying::refused(rt, refusal),
     }
     desk
 }
@@ -58,20 +58,20 @@ fn at_most_all(n: usize) -> usize
 }
 
 // Writes the first `count` places.
-fn say_found(buffer: &[u8; PLACES], count: usize)
+fn say_found(rt: &impl Print, buffer: &[u8; PLACES], count: usize)
     requires { count ≤ 64 }
 {
-    saying::say(b"found");
+    saying::say(rt, b"found");
     let mut i = 0;
     while i < count {
-        saying::say_field(buffer[i]);
+        saying::say_field(rt, buffer[i]);
         i += 1;
     }
-    saying::say(b"\n");
+    saying::say(rt, b"\n");
 }
 
 // `compare NUMBERS.. : NUMBERS..`
-pub(crate) fn compare(desk: Desk, line: &[u8], at: usize) -> Desk
+pub(crate) fn compare(rt: &impl Print, desk: Desk, line: &[u8], at: usize) -> Desk
     requires { Reached desk.state × (at ≤ length line.now) }
     ensures { Reached result.state }
 {
@@ -84,20 +84,20 @@ pub(crate) fn compare(desk: Desk, line: &[u8], at: usize) -> Desk
     }
     let n = first.count;
     let m = second.count;
-    say_better(&left[..n], &right[..m]);
+    say_better(rt, &left[..n], &right[..m]);
     desk
 }
 
 // Which of the two profiles is the one handed back.
-fn say_better<'a>(first: &'a [u8], second: &'a [u8]) {
+fn say_better<'a>(rt: &impl Print, first: &'a [u8], second: &'a [u8]) {
     let better = profile::better_of(first, second);
     if better.len() == 0 {
-        saying::say(b"empty\n");
+        saying::say(rt, b"empty\n");
         return;
     }
     if profile::is_better(second, first) {
-        saying::say(b"second\n");
+        saying::say(rt, b"second\n");
         return;
     }
-    saying::say(b"first\n");
+    saying::say(rt, b"first\n");
 }

@@ -8,7 +8,7 @@ use crate::keeping::{Desk, stopped, with_state};
 use crate::{lending, saying};
 
 // `pin VARIABLE VALUE`
-pub(crate) fn pin(desk: Desk, line: &[u8], at: usize) -> Desk
+pub(crate) fn pin(rt: &impl Print, desk: Desk, line: &[u8], at: usize) -> Desk
     requires { Reached desk.state × (at ≤ length line.now) }
     ensures { Reached result.state }
 {
@@ -18,12 +18,12 @@ pub(crate) fn pin(desk: Desk, line: &[u8], at: usize) -> Desk
     }
     let after = lending::pin(desk.state, pair.variable, pair.value);
     let answer = after.answer;
-    saying::decided(answer);
+    saying::decided(rt, answer);
     with_state(desk, after.state)
 }
 
 // `ban VARIABLE VALUE`
-pub(crate) fn ban(desk: Desk, line: &[u8], at: usize) -> Desk
+pub(crate) fn ban(rt: &impl Print, desk: Desk, line: &[u8], at: usize) -> Desk
     requires { Reached desk.state × (at ≤ length line.now) }
     ensures { Reached result.state }
 {
@@ -33,12 +33,12 @@ pub(crate) fn ban(desk: Desk, line: &[u8], at: usize) -> Desk
     }
     let after = lending::ban(desk.state, pair.variable, pair.value);
     let answer = after.answer;
-    saying::decided(answer);
+    saying::decided(rt, answer);
     with_state(desk, after.state)
 }
 
 // `back DEPTH`
-pub(crate) fn take_back(desk: Desk, line: &[u8], at: usize) -> Desk
+pub(crate) fn take_back(rt: &impl Print, desk: Desk, line: &[u8], at: usize) -> Desk
     requires { Reached desk.state × (at ≤ length line.now) }
     ensures { Reached result.state }
 {
@@ -48,6 +48,6 @@ pub(crate) fn take_back(desk: Desk, line: &[u8], at: usize) -> Desk
     }
     let after = lending::take_back(desk.state, depth.value as usize);
     let answer = after.answer;
-    saying::answered(answer);
+    saying::answered(rt, answer);
     with_state(desk, after.state)
 }

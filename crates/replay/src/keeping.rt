@@ -53,14 +53,14 @@ pub(crate) fn with_state(desk: Desk, state: State) -> Desk
 }
 
 // `new`: nothing stands any more.
-pub(crate) fn renewed(desk: Desk, line: &[u8], at: usize) -> Desk
+pub(crate) fn renewed(rt: &impl Print, desk: Desk, line: &[u8], at: usize) -> Desk
     requires { Reached desk.state × (at ≤ length line.now) }
     ensures { Reached result.state }
 {
     if !is_over(line, at) {
         return stopped(desk);
     }
-    saying::say(b"ok\n");
+    saying::say(rt, b"ok\n");
     new()
 }
 

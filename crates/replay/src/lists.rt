@@ -1,6 +1,6 @@
 // Lists of numbers in a line.
 ghost use Rattle.std.specs.Prelude.{◌≡◌, ◌≤◌, length};
-ghost use Rattle.io.specs.Counts.{IsPrefixLen};
+ghost use Rattle.std.specs.Counts.{IsPrefixLen};
 
 use crate::arguments::{number_in, signed_in};
 use crate::words::{is_word, next_word};

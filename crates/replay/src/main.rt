@@ -1,5 +1,6 @@
 // Reads a script of calls from standard input, one to a line, and writes a line for each: what the library answers.
 #![tactic(auto)]
+
 ghost use Rattle.std.specs.Prelude.{◌≡◌, ◌≤◌, length};
 ghost use Rattle.state.specs.Holds.{Reached};
 
@@ -43,67 +44,67 @@ fn line_end(script: &[u8], from: usize) -> usize
 }
 
 // Makes the call that a line says.
-fn run_line(desk: Desk, line: &[u8]) -> Desk
+fn run_line(rt: &impl Print, desk: Desk, line: &[u8]) -> Desk
     requires { Reached desk.state }
     ensures { Reached result.state }
 {
     let word = next_word(line, 0);
     let at = word.end;
     if is_word(line, word, b"new") {
-        return keeping::renewed(desk, line, at);
+        return keeping::renewed(rt, desk, line, at);
     }
     if is_word(line, word, b"var") {
-        return adding::add_variable(desk, line, at);
+        return adding::add_variable(rt, desk, line, at);
     }
     if is_word(line, word, b"table") {
-        return adding::add_table(desk, line, at);
+        return adding::add_table(rt, desk, line, at);
     }
     if is_word(line, word, b"linear") {
-        return adding::add_linear(desk, line, at);
+        return adding::add_linear(rt, desk, line, at);
     }
     if is_word(line, word, b"obj") {
-        return adding::name_objectives(desk, line, at);
+        return adding::name_objectives(rt, desk, line, at);
     }
     if is_word(line, word, b"compare") {
-        return asking::compare(desk, line, at);
+        return asking::compare(rt, desk, line, at);
     }
-    run_on_network(desk, line)
+    run_on_network(rt, desk, line)
 }
 
 // Makes the call that a line says of the network as it stands: to decide, to take back, to ask or to solve.
-fn run_on_network(desk: Desk, line: &[u8]) -> Desk
+fn run_on_network(rt: &impl Print, desk: Desk, line: &[u8]) -> Desk
     requires { Reached desk.state }
     ensures { Reached result.state }
 {
     let word = next_word(line, 0);
     let at = word.end;
     if is_word(line, word, b"pin") {
-        return deciding::pin(desk, line, at);
+        return deciding::pin(rt, desk, line, at);
     }
     if is_word(line, word, b"ban") {
-        return deciding::ban(desk, line, at);
+        return deciding::ban(rt, desk, line, at);
     }
     if is_word(line, word, b"back") {
-        return deciding::take_back(desk, line, at);
+        return deciding::take_back(rt, desk, line, at);
     }
     if is_word(line, word, b"left") {
-        return asking::values_left(desk, line, at);
+        return asking::values_left(rt, desk, line, at);
     }
     if is_word(line, word, b"solve") {
-        return asking::solve(desk, line, at);
+        return asking::solve(rt, desk, line, at);
     }
     keeping::stopped(desk)
 }
 
 // Runs a script line by line, to its end or to the first line that is no call.
-fn run(script: &[u8]) {
+fn run(rt: &impl Print, script: &[u8]) {
     let mut desk = keeping::new();
     let mut from = 0;
     while from < script.len() {
         let end = line_end(script, from);
-        desk = run_line(desk, &script[from..end]);
+        desk = run_line(rt, desk, &script[from..end]);
         if !desk.going {
-            saying::bad_script(from);
+            saying::bad_script(rt, from);
             return;
         }
         if end == script.len() {
@@ -113,12 +114,12 @@ fn run(script: &[u8]) {
     }
 }
 
-fn main() {
+fn main(rt: HostRuntime) {
     let mut text = room();
-    let length = io::read_full(libc::STDIN_FILENO, &mut text);
+    let length = input::read_full(&mut rt.stdin(), &mut text);
     if SCRIPT < length {
-        saying::too_long();
+        saying::too_long(&rt);
         return;
     }
-    run(&text[..length]);
+    run(&rt, &text[..length]);
 }

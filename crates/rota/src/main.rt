@@ -11,10 +11,10 @@ fn room() -> [u8; reply::TEXT + 1]
     [0; reply::TEXT + 1]
 }
 
-fn main() {
+fn main(rt: HostRuntime) {
     let mut text = room();
-    let length = io::read_full(libc::STDIN_FILENO, &mut text);
+    let length = input::read_full(&mut rt.stdin(), &mut text);
     let mut out = [0u8; LINES];
     let count = reply::answer(&text[..length], &mut out);
-    io::write_all(libc::STDOUT_FILENO, &out[..count]);
+    let _ = rt.write_all(&out[..count]);
 }

@@ -3,6 +3,14 @@
 ghost use Rattle.std.specs.Prelude.{◌≡◌, length};
 
 use lines::LINES;
+use std::env::FillError;
+use std::fs::File;
+use std::io::Read;
+use std::rt::{Env, Files};
+use std::{io, str};
+
+// The most bytes of a file's name.
+const PATH: usize = 4096;
 
 // One byte more than the program takes.
 fn room() -> [u8; reply::TEXT + 1]
@@ -11,31 +19,38 @@ fn room() -> [u8; reply::TEXT + 1]
     [0; reply::TEXT + 1]
 }
 
-// Writes the answer to the file that is open at `from`.
-fn answer(from: i32) {
+// Writes the answer to what `from` gives.
+fn answer(rt: &impl Print, from: &mut impl Read) {
     let mut text = room();
-    let length = io::read_full(from, &mut text);
+    let length = input::read_full(from, &mut text);
     let mut out = [0u8; LINES];
     let count = reply::answer(&text[..length], &mut out);
-    io::write_all(libc::STDOUT_FILENO, &out[..count]);
+    let _ = rt.write_all(&out[..count]);
 }
 
-// Writes the name of a file and the answer to it.
-fn show(i: usize) {
-    let mut path = io::buffer();
-    let length = os::arg(i, &mut path);
-    io::write_all(libc::STDOUT_FILENO, &path[..length]);
-    io::write_all(libc::STDOUT_FILENO, b"\n");
-    let from = os::open_read(&path[..length]);
-    answer(from);
-    libc::close(from);
+// Opens a file; none where its name is no text, or where it can't be opened.
+fn open<R: Files>(rt: &R, path: &[u8]) -> Option<R::File> {
+    let name = str::from_utf8(path).ok()?;
+    File::open(rt, name).ok()
 }
 
-fn main() {
-    let count = os::arg_count();
-    let mut i = 1;
-    while i < count {
-        show(i);
-        i += 1;
+// Writes the name of a file and the answer to it; one that can't be opened is empty.
+fn show(rt: &(impl Files + Print), path: &[u8]) {
+    let _ = rt.write_all(path);
+    let _ = rt.write_all(b"\n");
+    match open(rt, path) {
+        Some(mut file) => answer(rt, &mut file),
+        None => answer(rt, &mut io::empty()),
+    }
+}
+
+fn main(rt: HostRuntime) {
+    for i in 1..usize::MAX {
+        let mut path = [0u8; PATH];
+        match rt.arg(i, &mut path) {
+            Ok(length) => show(&rt, &path[..length]),
+            Err(FillError::TooLong) => show(&rt, b""),
+            Err(FillError::NotPresent) => return,
+        }
     }
 }

@@ -1,5 +1,6 @@
 // The search: the first rota of what stands whose objectives reach some thresholds.
 #![tactic(auto)]
+
 mod choices;
 mod nodes;
 mod spreading;

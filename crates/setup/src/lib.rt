@@ -1,5 +1,6 @@
 // A new state, its variables, and the objectives.
 #![tactic(auto)]
+
 ghost use Rattle.std.specs.Prelude.{◌≡◌, ◌≤◌, length};
 ghost use Rattle.meaning.specs.Limits.{objective_limit};
 ghost use Rattle.filters.specs.Layout.{padded};

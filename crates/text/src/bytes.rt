@@ -4,6 +4,7 @@ ghost use Rattle.text.specs.Bytes.{IsSortOf, is_blank, is_digit, is_visible};
 
 use crate::ByteSort;
 
+#[tactic(auto, unfolding(crate::specs::Bytes::sort_of))]
 pub fn sort_of(byte: u8) -> ByteSort
     ensures { IsSortOf byte result }
 {
@@ -15,6 +16,7 @@ pub fn sort_of(byte: u8) -> ByteSort
     }
 }
 
+#[tactic(auto, unfolding(crate::specs::Bytes::is_blank))]
 pub(crate) fn is_blank(byte: u8) -> bool
     ensures { result ≡ is_blank byte }
 {
@@ -24,6 +26,7 @@ pub(crate) fn is_blank(byte: u8) -> bool
     }
 }
 
+#[tactic(auto, unfolding(crate::specs::Bytes::is_digit))]
 pub(crate) fn is_digit(byte: u8) -> bool
     ensures { result ≡ is_digit byte }
 {
@@ -34,6 +37,7 @@ pub(crate) fn is_digit(byte: u8) -> bool
 }
 
 // Whether the byte is a digit or another mark.
+#[tactic(auto, unfolding(crate::specs::Bytes::is_visible))]
 pub(crate) fn is_visible(byte: u8) -> bool
     ensures { result ≡ is_visible byte }
 {

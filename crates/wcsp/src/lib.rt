@@ -1,5 +1,6 @@
 // Reading wcsp files (document 01): left to right, to the first fault or to the state that the file's calls leave.
 #![tactic(auto)]
+
 ghost use Rattle.wcsp.specs.Promises.{Reads};
 
 use reading::Step;

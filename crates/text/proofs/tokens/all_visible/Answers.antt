@@ -1,6 +1,5 @@
 -- `text::tokens::all_visible` meets its contract. The loop: what the rest says is what the whole token says.
 use mathlib.Core.Path.{sym, ◌∙◌}
-use Prim.Native.Nat.{◌-◌}
 use borrow.Author.Rules.{rules}
 use Rattle.text.specs.Bytes.{is_visible}
 use Rattle.text.proofs.Every.{passed, failed, all_passed}

@@ -1,6 +1,5 @@
 -- `text::words::skip_blanks` meets its contract. The loop: from each blank passed on, the next token begins at the same place.
 use mathlib.Core.Path.{sym, ◌∙◌}
-use Prim.Native.Nat.{◌-◌}
 use borrow.Author.Rules.{rules}
 use Rattle.text.specs.Bytes.{is_blank}
 use Rattle.text.specs.Words.{blanks, token_start}

@@ -1,7 +1,6 @@
 -- `text::words::token_end` meets its contract. The loop: from each byte passed on, the token ends at the same place.
 use mathlib.Core.Path.{sym, ap, ◌∙◌}
 use mathlib.Core.Bool.{not}
-use Prim.Native.Nat.{◌-◌}
 use borrow.Author.Rules.{rules}
 use Rattle.text.specs.Bytes.{is_blank}
 use Rattle.text.specs.Words.{run}

@@ -1,0 +1,5 @@
+-- The power of ten falls.
+use Rattle.compare.proofs.counts.write_number.Given as goal
+
+abbrev pub decreases-loop-power : goal.decreases-loop-power
+decreases-loop-power g l = l.power
