@@ -1,5 +1,6 @@
 // Pins, bans and take-backs on a rota state that stays with the desk program, which lends it for each call.
 #![tactic(auto)]
+
 ghost use Rattle.state.specs.Holds.{Reached};
 ghost use Rattle.decide.specs.Decisions.{Pins, Bans, TakesBack};
 

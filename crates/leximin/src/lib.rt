@@ -1,5 +1,6 @@
 // Solving: the leximin-best rota, found by raising the thresholds place by place (Algorithm 4).
 #![tactic(auto)]
+
 ghost use Rattle.std.specs.Prelude.{◌≡◌, ◌≤◌, ◌<◌, length, get_or, take};
 ghost use Rattle.std.proofs.Math.Seq.{paste};
 ghost use Rattle.meaning.specs.Limits.{variable_limit};
