@@ -1,4 +1,4 @@
--- The power of ten falls.
+-- Each turn leaves a smaller power of ten.
 use Rattle.compare.proofs.counts.write_number.Given as goal
 
 abbrev pub decreases-loop-power : goal.decreases-loop-power

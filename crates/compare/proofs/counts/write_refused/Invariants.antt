@@ -1,4 +1,4 @@
--- Each turn writes one number of those below 14.
+-- The numbers go up to 13.
 use Rattle.std.proofs.Common.{◌-◌}
 use Rattle.compare.proofs.counts.write_refused.Given as goal
 
