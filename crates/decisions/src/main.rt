@@ -1,6 +1,7 @@
 // Bans the values 0 to 32 of one variable in turn, takes back to depth 31, and bans once more. It writes a letter for each
 // ban: y accepted, n refused because 32 decisions are outstanding, ? for any other refusal.
 #![tactic(auto)]
+
 ghost use Rattle.state.specs.Holds.{Reached};
 
 use decide::DecisionAnswer;

@@ -1,5 +1,6 @@
 // The program of document 01: reads one wcsp file from standard input and writes the best rota, or why there is none.
 #![tactic(auto)]
+
 ghost use Rattle.std.specs.Prelude.{◌≡◌, length};
 
 use lines::LINES;

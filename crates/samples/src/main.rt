@@ -1,5 +1,6 @@
 // Runs the program's library on each file that an argument names, and writes the name and the answer.
 #![tactic(auto)]
+
 ghost use Rattle.std.specs.Prelude.{◌≡◌, length};
 
 use lines::LINES;

@@ -5,5 +5,5 @@ use Rattle.state.proofs.Runs.{reached_after}
 use Rattle.compare.proofs.library.objectives_named.Goals as goal
 
 pub returns : goal.returns
-returns c = 
+returns c =
     reached_after (name_objectives (take c.at_most-arity.result c.args.call.scope)) c.requires c.name_objectives-after.ensures
