@@ -11,7 +11,6 @@ use lib.ListN.{length, get_or, take}
 use lib.Seq.{length-take-le}
 use Rattle.meaning.specs.Limits.{room_limit, arity_limit}
 use Rattle.meaning.specs.Refusals.{out_of_range, wrong_length}
-use Rattle.meaning.specs.Calls.{Sort}
 use Rattle.text.specs.Words.{token_start}
 use Rattle.refusals.specs.declared.Refusal.{Refusal}
 use Rattle.state.specs.declared.Sort as Sorts

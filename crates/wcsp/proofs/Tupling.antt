@@ -1,5 +1,5 @@
 -- One tuple with its cost: read behind the others, judged against them. Assumes nothing.
-use mathlib.Core.Path.{◌≡◌, refl, sym, ap, ap₂, ◌∙◌, subst, subst⁻¹}
+use mathlib.Core.Path.{◌≡◌, refl, sym, ap, ap₂, ◌∙◌, subst⁻¹}
 use mathlib.Core.Logic.{inl, inr}
 use mathlib.Core.Bool.{Bool, true, false, ◌||◌}
 use mathlib.Core.List.{List, [], ◌∷◌}
@@ -15,9 +15,9 @@ use Rattle.refusals.specs.declared.Refusal.{Refusal}
 use Rattle.refusals.specs.declared.Refusal.TheVariants as Wrong
 use Rattle.reading.specs.declared.Step.{Step}
 use Rattle.reading.specs.declared.Step.TheVariants.{Fault, Read}
-use Rattle.reading.specs.Reading.{fault, got, any_number, judged, number, several}
+use Rattle.reading.specs.Reading.{fault, got, any_number, number, several}
 use Rattle.costs.specs.Costs.{same_said}
-use Rattle.wcsp.specs.Files.{value_tests, tuple_tests, tuple}
+use Rattle.wcsp.specs.Files.{value_tests, tuple_tests}
 use Rattle.reading.specs.Steps.{Comes, ComesTo}
 use Rattle.wcsp.specs.Steps.{Behind, Filled, NextTuple}
 use Rattle.reading.proofs.Coming.{comes_by, stops, goes_on, number_on}

@@ -19,6 +19,7 @@ pub(crate) struct Scope {
 }
 
 // One of n variables that isn't among those named before it.
+#[tactic(auto, unfolding(reading::specs::Reading::number, meaning::specs::Refusals::first))]
 fn next_variable(text: &[u8], at: usize, n: usize, variables: [u8; 8], named: usize) -> Step
     requires { named ≤ arity_limit }
     ensures { ComesTo (number text.now (variable_tests n (take named variables)) at) result }

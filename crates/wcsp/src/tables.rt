@@ -34,6 +34,7 @@ pub(crate) struct Added {
 }
 
 // How many tuples: the room, some of it used, must hold them.
+#[tactic(auto, unfolding(reading::specs::Reading::number, meaning::specs::Refusals::first))]
 fn tuple_count(text: &[u8], at: usize, used: usize, arity: usize) -> Step
     requires { (used ≤ room_limit) × (arity ≤ arity_limit) }
     ensures { ComesTo (number text.now (count_tests used arity) at) result }

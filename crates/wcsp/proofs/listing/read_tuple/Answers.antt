@@ -1,6 +1,6 @@
--- `wcsp::tuples::read_tuple` meets its contract. The loop: the first j values are read.
+-- `wcsp::listing::read_tuple` meets its contract. The loop: the first j values are read.
 use mathlib.Core.Path.{◌≡◌, ap}
-use Prim.Native.Nat.{ℕ, ◌-◌, ◌<◌}
+use Prim.Native.Nat.{ℕ, ◌<◌}
 use native.Mathlib.Omega.{arith}
 use borrow.Author.Rules.{rules}
 use borrow.Author.Tests.{leb-false}
@@ -17,14 +17,14 @@ returns-in_default c =
     let a = c.args in
     let p = c.requires in
     let l = c.loop-j in
-    (l.invariant.0, fault_there _ l.invariant.1 c.loop-j-test.true (value_came a.text.now a.sizes a.scope l.cells a.start a.arity l.j l.place c.loop-j-test.true p.2 (search rules) (omega (arith, l.invariant.0.long, p.3, p.4)) c.number_below-step.ensures) c.enum_told-1.given.1)
+    (l.invariant.0, fault_there _ l.invariant.1 c.loop-j-test.true (value_came a.text.now a.sizes a.scope l.cells a.start a.arity l.j l.place c.loop-j-test.true p.2 (search rules) (omega (arith, l.invariant.0.long, p.3, p.4)) c.number_below-step.ensures) c.in_default.is)
 
 pub overflow_cast-cells : goal.overflow_cast-cells
 overflow_cast-cells c =
     let a = c.args in
     let p = c.requires in
     let l = c.loop-j in
-    let small : c.step-1.given.0.0 < get_or a.sizes (get_or a.scope l.j 0) 0 = leb-false _ _ (tests_passed _ _ _ (number_is c.number_below-step.ensures c.step-1.given.1)).0 in
+    let small : c.in-Read.value < get_or a.sizes (get_or a.scope l.j 0) 0 = leb-false _ _ (tests_passed _ _ _ (number_is c.number_below-step.ensures c.in-Read.is)).0 in
     omega (arith, small, p.0 (get_or a.scope l.j 0))
 
 pub loop-j-preserved : goal.loop-j-preserved
@@ -32,8 +32,8 @@ loop-j-preserved c =
     let a = c.args in
     let p = c.requires in
     let l = c.loop-j in
-    let v = c.step-1.given.0.0 in
-    (behind_set l.j v l.invariant.0, next_number _ _ l.invariant.1 c.loop-j-test.true (value_came a.text.now a.sizes a.scope l.cells a.start a.arity l.j l.place c.loop-j-test.true p.2 (search rules) (omega (arith, l.invariant.0.long, p.3, p.4)) c.number_below-step.ensures) _ c.step-1.given.1 (put_from l.cells a.start l.j v (omega (arith, l.invariant.0.long, p.3, p.4, c.loop-j-test.true))))
+    let v = c.in-Read.value in
+    (behind_set l.j v l.invariant.0, next_number _ _ l.invariant.1 c.loop-j-test.true (value_came a.text.now a.sizes a.scope l.cells a.start a.arity l.j l.place c.loop-j-test.true p.2 (search rules) (omega (arith, l.invariant.0.long, p.3, p.4)) c.number_below-step.ensures) _ c.in-Read.is (put_from l.cells a.start l.j v (omega (arith, l.invariant.0.long, p.3, p.4, c.loop-j-test.true))))
 
 pub returns : goal.returns
 returns c =

@@ -1,4 +1,4 @@
--- `wcsp::tuples::read_tuple` meets its contract. The loop: the first j values are read.
+-- `wcsp::listing::read_tuple` meets its contract. The loop: the first j values are read.
 use Prim.Native.Nat.{◌-◌}
 use lib.ListN.{take, drop}
 use Rattle.wcsp.specs.Files.{value_tests}

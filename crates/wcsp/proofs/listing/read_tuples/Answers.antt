@@ -1,6 +1,6 @@
 -- `wcsp::listing::read_tuples` meets its contract. The loop: the first i tuples are read.
 use mathlib.Core.Path.{◌≡◌, refl, ◌∙◌, subst}
-use Prim.Native.Nat.{ℕ, ◌-◌}
+use Prim.Native.Nat.{ℕ}
 use native.Mathlib.Omega.{arith}
 use Rattle.wcsp.specs.Steps.{Filled}
 use Rattle.wcsp.proofs.Heaping.{filled_none, filled_more, row_inside}
@@ -18,7 +18,7 @@ returns-in_default c =
     let l = c.loop-i in
     let (ts, filled, so_far) = l.invariant.2 in
     let e = c.next_tuple-step.ensures.next_tuple in
-    (e.behind.long ∙ l.invariant.0, fault_there _ so_far c.loop-i-test.true (e.comes ts filled) c.enum_told-1.given.1)
+    (e.behind.long ∙ l.invariant.0, fault_there _ so_far c.loop-i-test.true (e.comes ts filled) c.in_default.is)
 
 pub loop-i-preserved : goal.loop-i-preserved
 loop-i-preserved c =
@@ -27,10 +27,10 @@ loop-i-preserved c =
     let l = c.loop-i in
     let (ts, filled, so_far) = l.invariant.2 in
     let e = c.next_tuple-step.ensures in
-    let behind = e.0.behind in
-    let (t, k, more) = one_more _ so_far c.loop-i-test.true (e.0.comes ts filled) c.step-1.given.1 in
+    let behind = e.next_tuple.behind in
+    let (t, k, more) = one_more _ so_far c.loop-i-test.true (e.next_tuple.comes ts filled) c.in-Read.is in
     let fits = row_inside l.i a.count a.arity c.loop-i-test.true in
-    (behind.long ∙ l.invariant.0, e.1.on _ _ c.step-1.given.1, (_, filled_more a.arity l.i ts l.cells _ filled behind (omega (arith, fits, p.3, l.invariant.0)) t k, more))
+    (behind.long ∙ l.invariant.0, e.keyed_on.on _ _ c.in-Read.is, (_, filled_more a.arity l.i ts l.cells _ filled behind (omega (arith, fits, p.3, l.invariant.0)) t k, more))
 
 pub returns : goal.returns
 returns c =

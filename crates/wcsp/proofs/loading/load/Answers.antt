@@ -5,4 +5,4 @@ use Rattle.wcsp.proofs.loading.load.Goals as goal
 
 pub returns : goal.returns
 returns c =
-    the_file _ c.read_header-header.ensures.1 c.first-1.given.1 _ c.read_sizes-lengths.ensures.2 c.second-1.given.1 _ c.read_tables-added.ensures c.third-1.given.1 c.read_end-step.ensures (omega (arith, c.read_sizes-lengths.ensures.1, c.read_header-header.ensures.0.0))
+    the_file _ c.read_header-header.ensures.1 c.in-Read.is _ c.read_sizes-lengths.ensures.2 c.in-Read-second.is _ c.read_tables-added.ensures c.in-Read-third.is c.read_end-step.ensures (omega (arith, c.read_sizes-lengths.ensures.1, c.read_header-header.ensures.0.0))

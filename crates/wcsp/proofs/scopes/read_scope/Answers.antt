@@ -2,7 +2,7 @@
 use mathlib.Core.Path.{ap}
 use Prim.Native.Nat.{ℕ}
 use mathlib.Core.Path.{◌≡◌, ◌∙◌}
-use Prim.Native.Nat.{◌-◌, ◌<◌}
+use Prim.Native.Nat.{◌<◌}
 use borrow.Author.Rules.{rules}
 use native.Mathlib.Omega.{arith}
 use lib.ListN.{take, length-set}
@@ -17,21 +17,21 @@ pub returns-in_default : goal.returns-in_default
 returns-in_default c =
     let a = c.args in
     let l = c.loop-named in
-    (l.invariant.1, l.invariant.0, fault_there _ l.invariant.2 c.loop-named-test.true c.next_variable-step.ensures c.enum_told-1.given.1)
+    (l.invariant.1, l.invariant.0, fault_there _ l.invariant.2 c.loop-named-test.true c.next_variable-step.ensures c.in_default.is)
 
 pub overflow_cast-variables : goal.overflow_cast-variables
 overflow_cast-variables c =
     let a = c.args in
     let l = c.loop-named in
-    let small : c.step-1.given.0.0 < a.n = leb-false _ _ (tests_passed _ _ _ (number_is c.next_variable-step.ensures c.in-Read.is)).0 in
+    let small : c.in-Read.x < a.n = leb-false _ _ (tests_passed _ _ _ (number_is c.next_variable-step.ensures c.in-Read.is)).0 in
     omega (arith, small)
 
 pub loop-named-preserved : goal.loop-named-preserved
 loop-named-preserved c =
     let a = c.args in
     let l = c.loop-named in
-    let v = c.step-1.given.0.0 in
-    let small : c.step-1.given.0.0 < a.n = leb-false _ _ (tests_passed _ _ _ (number_is c.next_variable-step.ensures c.in-Read.is)).0 in
+    let v = c.in-Read.x in
+    let small : c.in-Read.x < a.n = leb-false _ _ (tests_passed _ _ _ (number_is c.next_variable-step.ensures c.in-Read.is)).0 in
     (length-set l.variables l.named v ∙ l.invariant.0, under_set l.variables l.named v l.invariant.1 (omega (arith, small)) (search rules), next_number _ _ l.invariant.2 c.loop-named-test.true c.next_variable-step.ensures _ c.in-Read.is (put_next l.variables l.named v (search rules)))
 
 pub returns : goal.returns

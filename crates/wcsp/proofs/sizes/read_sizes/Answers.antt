@@ -4,7 +4,7 @@ use Rattle.blocks.proofs.Copying.{zeros_at}
 use mathlib.Core.Path.{ap}
 use Prim.Native.Nat.{ℕ}
 use mathlib.Core.Path.{◌≡◌, refl, ◌∙◌}
-use Prim.Native.Nat.{◌-◌, ◌≤◌}
+use Prim.Native.Nat.{◌≤◌}
 use borrow.Author.Rules.{rules}
 use native.Mathlib.Omega.{arith}
 use lib.ListN.{take, length-set}
@@ -21,22 +21,22 @@ pub returns-in_default : goal.returns-in_default
 returns-in_default c =
     let a = c.args in
     let l = c.loop-i in
-    (l.invariant.1, l.invariant.0, fault_there _ l.invariant.2 c.loop-i-test.true c.number_within-step.ensures c.enum_told-1.given.1)
+    (l.invariant.1, l.invariant.0, fault_there _ l.invariant.2 c.loop-i-test.true c.number_within-step.ensures c.in_default.is)
 
 pub overflow_cast-sizes : goal.overflow_cast-sizes
 overflow_cast-sizes c =
     let a = c.args in
     let l = c.loop-i in
-    let small : c.step-1.given.0.0 ≤ a.largest = (in_range _ _ _ _ _ _ (number_is c.number_within-step.ensures c.step-1.given.1)).1 in
+    let small : c.in-Read.size ≤ a.largest = (in_range _ _ _ _ _ _ (number_is c.number_within-step.ensures c.in-Read.is)).1 in
     omega (arith, small)
 
 pub loop-i-preserved : goal.loop-i-preserved
 loop-i-preserved c =
     let a = c.args in
     let l = c.loop-i in
-    let v = c.step-1.given.0.0 in
-    let small : c.step-1.given.0.0 ≤ a.largest = (in_range _ _ _ _ _ _ (number_is c.number_within-step.ensures c.step-1.given.1)).1 in
-    (length-set l.sizes l.i v ∙ l.invariant.0, under_set l.sizes l.i v l.invariant.1 (omega (arith, small)) (search rules), next_number _ _ l.invariant.2 c.loop-i-test.true c.number_within-step.ensures _ c.step-1.given.1 (put_next l.sizes l.i v (search rules)), zero_set l.sizes l.i v l.invariant.3)
+    let v = c.in-Read.size in
+    let small : c.in-Read.size ≤ a.largest = (in_range _ _ _ _ _ _ (number_is c.number_within-step.ensures c.in-Read.is)).1 in
+    (length-set l.sizes l.i v ∙ l.invariant.0, under_set l.sizes l.i v l.invariant.1 (omega (arith, small)) (search rules), next_number _ _ l.invariant.2 c.loop-i-test.true c.number_within-step.ensures _ c.in-Read.is (put_next l.sizes l.i v (search rules)), zero_set l.sizes l.i v l.invariant.3)
 
 pub returns : goal.returns
 returns c =

@@ -11,23 +11,23 @@ use Rattle.wcsp.proofs.tables.read_table.Goals as goal
 
 pub read_scope-scope-requires : goal.read_scope-scope-requires
 read_scope-scope-requires c =
-    (c.requires.2, (in_range _ _ _ _ _ _ (number_is c.number_within-first.ensures c.first-1.given.1)).1)
+    (c.requires.2, (in_range _ _ _ _ _ _ (number_is c.number_within-first.ensures c.in-Read.is)).1)
 
 pub tuple_count-counted-requires : goal.tuple_count-counted-requires
 tuple_count-counted-requires c =
-    (c.requires.3, (in_range _ _ _ _ _ _ (number_is c.number_within-first.ensures c.first-1.given.1)).1)
+    (c.requires.3, (in_range _ _ _ _ _ _ (number_is c.number_within-first.ensures c.in-Read.is)).1)
 
 pub read_tuples-step-requires : goal.read_tuples-step-requires
 read_tuples-step-requires c =
     let a = c.args in
     let p = c.requires in
-    let room = room_holds a.used c.first-1.given.0.0 c.counted-1.given.0.0 (tests_passed _ _ _ (number_is c.tuple_count-counted.ensures c.counted-1.given.1)).0 in
-    let arity = in_range _ _ _ _ _ _ (number_is c.number_within-first.ensures c.first-1.given.1) in
+    let room = room_holds a.used c.in-Read.arity c.in-Read-counted.count (tests_passed _ _ _ (number_is c.tuple_count-counted.ensures c.in-Read-counted.is)).0 in
+    let arity = in_range _ _ _ _ _ _ (number_is c.number_within-first.ensures c.in-Read.is) in
     (p.0, c.read_scope-scope.ensures.0, arity.1, omega (arith, room), p.4, arity.0)
 
 pub overflow_mul-result : goal.overflow_mul-result
 overflow_mul-result c =
-    let room = room_holds c.args.used c.first-1.given.0.0 c.counted-1.given.0.0 (tests_passed _ _ _ (number_is c.tuple_count-counted.ensures c.counted-1.given.1)).0 in
+    let room = room_holds c.args.used c.in-Read.arity c.in-Read-counted.count (tests_passed _ _ _ (number_is c.tuple_count-counted.ensures c.in-Read-counted.is)).0 in
     omega (arith, room)
 
 pub returns : goal.returns
@@ -35,4 +35,4 @@ returns c =
     let a = c.args in
     let p = c.requires in
     let long : length a.sizes ≡ 32 = array_length w8 32 a.sizes _ c.well_formed.1.1.0 in
-    (c.read_tuples-step.ensures.0, the_table a.text.now a.sizes a.n a.used a.at (omega (arith, long, p.2)) p.1 c.number_within-first.ensures c.first-1.given.1 _ c.read_scope-scope.ensures.2 c.named-1.given.1 c.any_number-cost.ensures c.cost-1.given.1 c.tuple_count-counted.ensures c.counted-1.given.1 _ c.read_tuples-step.ensures.1 _ c.sort_by.ensures c.read_scope-scope.ensures.1)
+    (c.read_tuples-step.ensures.0, the_table a.text.now a.sizes a.n a.used a.at (omega (arith, long, p.2)) p.1 c.number_within-first.ensures c.in-Read.is _ c.read_scope-scope.ensures.2 c.in-Read-named.is c.any_number-cost.ensures c.in-Read-cost.is c.tuple_count-counted.ensures c.in-Read-counted.is _ c.read_tuples-step.ensures.1 _ c.sort_by.ensures c.read_scope-scope.ensures.1)

@@ -5,7 +5,6 @@ use Prim.Native.Nat.{◌-◌, ◌≤◌}
 use lib.ListN.{length, take}
 use Rattle.meaning.specs.Limits.{room_limit}
 use Rattle.state.specs.Runs.{Run}
-use Rattle.wcsp.specs.declared.tables.Table as Code
 use Rattle.wcsp.specs.Files.{Table, taken, table, variable_calls, table_calls}
 use Rattle.reading.proofs.Several.{SoFar}
 use Rattle.wcsp.proofs.tables.read_tables.Given as goal
