@@ -1,7 +1,7 @@
 #!/usr/bin/env python3
 """Runs the programs `rota` and `replay` on the instances and compares with their answers.
 
-    rt check rota replay                 builds target/bin/rota and target/bin/replay
+    bench/build.sh                       proves and builds the two programs
     python3 bench/expected.py [FOLDER]   a line for every NAME.wcsp and NAME.script of bench/instances, or of another folder
 
 NAME.wcsp.expected is what `rota` writes. NAME.script.expected is every line that `replay` writes or, where it has fewer
@@ -14,12 +14,11 @@ import subprocess
 import sys
 
 REPOSITORY = pathlib.Path(__file__).resolve().parent.parent
-PROGRAMS = REPOSITORY / "target" / "bin"
 INSTANCES = REPOSITORY / "bench" / "instances"
 
 
 def answer(program, file):
-    done = subprocess.run([PROGRAMS / program], input=file.read_bytes(), stdout=subprocess.PIPE, check=True)
+    done = subprocess.run([REPOSITORY / "crates" / program / "out" / program], input=file.read_bytes(), stdout=subprocess.PIPE, check=True)
     return done.stdout.decode().splitlines()
 
 

@@ -1,7 +1,7 @@
 #!/usr/bin/env python3
 """Times the program `rota` against its unverified twin in Rust, and beside other solvers where they are installed.
 
-    rt check rota replay                 builds target/bin/rota and target/bin/replay
+    bench/build.sh                       proves and builds the two programs
     python3 bench/run.py [FOLDER]        a table for every NAME.wcsp of bench/instances, or of another folder, that has a
                                          NAME.wcsp.expected, and one for every NAME.script, which only `replay` reads
 
@@ -24,8 +24,8 @@ import tempfile
 import peers
 
 REPOSITORY = pathlib.Path(__file__).resolve().parent.parent
-ROTA = REPOSITORY / "target" / "bin" / "rota"
-REPLAY = REPOSITORY / "target" / "bin" / "replay"
+ROTA = REPOSITORY / "crates" / "rota" / "out" / "rota"
+REPLAY = REPOSITORY / "crates" / "replay" / "out" / "replay"
 TWIN = REPOSITORY / "target" / "bench" / "twin"
 INSTANCES = REPOSITORY / "bench" / "instances"
 
@@ -206,7 +206,7 @@ def document(times, start, counts, scripts, others):
     yield ""
     yield "## Measuring again"
     yield ""
-    yield "    rt check rota replay"
+    yield "    bench/build.sh"
     yield "    bench/install-peers.sh"
     yield "    python3 bench/run.py --instructions --write docs/PERFORMANCE.md"
     yield ""
@@ -230,7 +230,7 @@ def main():
     options.add_argument("--write", type=pathlib.Path, metavar="FILE", help="write a document, such as docs/PERFORMANCE.md")
     chosen = options.parse_args()
     if not ROTA.exists() or not REPLAY.exists():
-        sys.exit("the programs are not there: build them with `rt check rota replay`")
+        sys.exit("the programs are not there: build them with bench/build.sh")
     files = instances_in(chosen.folder)
     build_twin()
     times = measure(files)

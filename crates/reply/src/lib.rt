@@ -1,5 +1,6 @@
 // What the program answers to a file (document 01, "The program"): the file is read, its objectives are named, and it is solved.
 #![tactic(auto)]
+
 ghost use Rattle.std.specs.Prelude.{◌≡◌, ◌≤◌, ◌<◌, min, length, take};
 ghost use Rattle.meaning.specs.Limits.{variable_limit, objective_limit};
 ghost use Rattle.meaning.specs.Order.{sorted};
