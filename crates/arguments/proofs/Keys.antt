@@ -110,6 +110,6 @@ module _ (a : ℕ) (some_cells : 0 < a) (cells : List ℕ) where
         sym (earlier (twice_search a some_cells) ((place - a) / a) cells (omega (arith, p.inside))
         (ap (λ (k : ℕ). repeats same (tuples_in a (drop k cells))) steps ∙ here))
 
-pub no_tuples : (cells : List ℕ) {a : ℕ} → a ≡ 0 → false ≡ repeats same (tuples_in a cells)
+pub no_tuples : (cells : List ℕ) (a : ℕ) → a ≡ 0 → repeats same (tuples_in a cells) ≡ false
 unfolding repeats
-no_tuples cells e = sym (ap (repeats same) (tuples_of_none cells e))
+no_tuples cells a e = ap (repeats same) (tuples_of_none cells e)

@@ -60,6 +60,7 @@ pub fn is_named(variables: &[u8], x: usize) -> bool
 }
 
 // Whether a variable stands twice.
+#[tactic(auto, using(crate::proofs::Twice::twice_here, crate::proofs::Twice::once_here))]
 pub fn any_twice(variables: &[u8]) -> bool
     ensures { AnyTwice variables.now result }
 {
@@ -84,6 +85,7 @@ fn listed_again(cells: &[u8], place: usize, arity: usize) -> bool
 
 // Whether a tuple stands twice, where so many cells make one. It goes from the last tuple to the first, with a mark at the key of each that it passed:
 // only a tuple whose key is marked can stand again.
+#[tactic(auto, using(crate::proofs::Keys::no_tuples))]
 pub fn tuple_twice(cells: &[u8], arity: usize) -> bool
     ensures { TupleTwice cells.now arity result }
 {

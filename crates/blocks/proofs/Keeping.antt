@@ -2,7 +2,7 @@
 use mathlib.Core.Path.{◌≡◌, refl, sym, ap, ◌∙◌}
 use mathlib.Core.Logic.{◌⊎◌, ⊎_elim, by_cases}
 use mathlib.Core.List.{List}
-use Prim.Native.Nat.{ℕ, ◌^◌, ◌≤◌, ◌<◌}
+use Prim.Native.Nat.{ℕ, ◌*◌, ◌%◌, ◌^◌, ◌≤◌, ◌<◌}
 use native.Mathlib.Decide.{ℕ_discrete}
 use native.Mathlib.Omega.{arith}
 use lib.Bits.{bit_and}
@@ -11,6 +11,7 @@ use lib.Seq.{get_or-set_same, get_or-set_other}
 use Rattle.meaning.specs.Limits.{variable_limit}
 use Rattle.meaning.specs.Values.{bit}
 use Rattle.meaning.proofs.Digits.{bit_of_and, bit_pow_same, bit_pow_other, zero_bit}
+use Rattle.values.proofs.One.{shl_one}
 use Rattle.blocks.specs.Keeping.{Kept, KeptIn, Changed}
 
 module _ (L : List ℕ) (x m : ℕ) (inside : x < length L) where
@@ -61,3 +62,11 @@ one_list l long k = record {
   kept = λ _ _. k;
   none = λ past. absurd (⊎_elim (λ h. omega arith) (λ n. n long) past);
 }
+
+-- where there is one, as the code answers it: the list stays as it is, or x's list changes
+module _ (L : List ℕ) (x m : ℕ) (long : length L ≡ variable_limit) (small : x < variable_limit) where
+  pub stays_in : bit_and (get_or L x 0) m ≡ get_or L x 0 → KeptIn L x m (set L x (bit_and (get_or L x 0) m)) 0
+  stays_in e = one_list small long (kept_same L x m (omega arith) e)
+
+  pub changes_in : ¬ (bit_and (get_or L x 0) m ≡ get_or L x 0) → KeptIn L x m (set L x (bit_and (get_or L x 0) m)) ((1 * 2 ^ x) % 2 ^ 64)
+  changes_in d = one_list small long (rw (shl_one x (omega arith)) (kept_less L x m (omega arith) d))

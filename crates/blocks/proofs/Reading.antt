@@ -1,6 +1,6 @@
 -- Blocks place by place, and what the loop that reads one has read. Assumes nothing.
 use mathlib.Core.Path.{◌≡◌, sym, ap, ◌∙◌}
-use mathlib.Core.Logic.{◌⊎◌, inl, ⊎_elim, by_cases}
+use mathlib.Core.Logic.{◌⊎◌, inl, inr, ⊎_elim, by_cases}
 use mathlib.Core.Bool.{Bool, cond}
 use mathlib.Core.List.{List}
 use Prim.Native.Nat.{ℕ, ◌+◌, ◌*◌, ◌≤◌, ◌<◌}
@@ -31,6 +31,10 @@ module _ (l : List ℕ) (k x : ℕ) where
       sym (by_cases (dec_lt decision_limit k) past_all (λ few. in_a_block (omega arith)
       ∙ get_or-eq_default (block l k variable_limit) 0 {n = x}
       (⊎_elim (λ wide. omega (arith, length-take variable_limit (drop (variable_limit * k) l))) (λ deep. absurd (few deep)) past)))
+
+  -- the two tests of the code, one after the other
+  pub nowhere : (decision_limit < k) ⊎ ((k ≤ decision_limit) × (variable_limit ≤ x)) → 0 ≡ list_after l k x
+  nowhere past = no_place (⊎_elim (λ deep. inr deep) (λ wide. inl wide.1) past)
 
 -- the first x lists are read
 pub record Read (l : List ℕ) (k : ℕ) (out : List ℕ) (x : ℕ) : Type 0 where

@@ -57,6 +57,7 @@ pub fn clear_after(lists: &mut [u64; 1056], k: usize)
 }
 
 // Keeps of x's list, one of 32, what mask has too. The answer is the set of the variables whose lists change: x or none.
+#[tactic(auto, using(crate::proofs::Keeping::stays_in, crate::proofs::Keeping::changes_in))]
 pub fn keep(lists: &mut [u64], x: usize, mask: u64) -> u64
     ensures { KeptIn lists.old x mask lists.new result }
 {

@@ -9,20 +9,20 @@ use leximin::Solved;
 use refusals::{Answer, number_of};
 use state::{Sort, State};
 
-#[derive(Drop)]
+#[derive(Clone, Copy)]
 pub(crate) struct Told {
     pub number: u8,
     pub values: u64,
 }
 
 // What solving answers, and the buffer after it.
-#[derive(Drop)]
+#[derive(Clone, Copy)]
 pub(crate) struct Written {
     pub number: u8,
     pub buffer: [u8; SHORT],
 }
 
-#[derive(Drop)]
+#[derive(Clone, Copy)]
 pub(crate) struct After {
     pub number: u8,
     pub state: State,

@@ -34,7 +34,7 @@ pub(crate) struct Record {
     pub decided_value: [u8; SHORT],
 }
 
-#[derive(Drop)]
+#[derive(Clone, Copy)]
 pub(crate) struct Reply {
     pub number: u8,
     pub record: Record,

@@ -8,7 +8,7 @@ use borrow.Author.Tests.{le-ltb, lt-ltb}
 use lib.ListN.{length}
 use lib.Seq.{length-take-le}
 use Rattle.meaning.specs.Limits.{variable_limit}
-use Rattle.meaning.specs.Refusals.{number, first, too_deep}
+use Rattle.meaning.specs.Refusals.{number, too_deep}
 use Rattle.meaning.specs.Calls.{take_back, tests}
 use Rattle.meaning.proofs.Proper.{leaves_proper}
 use Rattle.state.specs.declared.State.{State}

@@ -12,20 +12,20 @@ use refusals::{Answer, Refusal};
 use state::{AfterCall, State};
 
 // What a pin or a ban answers.
-#[derive(Drop)]
+#[derive(Clone, Copy)]
 pub enum DecisionAnswer {
     Accepted,
     Refused(Refusal),
 }
 
-#[derive(Drop)]
+#[derive(Clone, Copy)]
 pub struct AfterDecision {
     pub answer: DecisionAnswer,
     pub state: State,
 }
 
 // What a question for the values left answers.
-#[derive(Drop)]
+#[derive(Clone, Copy)]
 pub enum Left {
     Values(u64),
     Refused(Refusal),
@@ -73,6 +73,7 @@ pub fn ban(s: State, x: u8, v: u8) -> AfterDecision
 }
 
 // The tests of a pin or a ban, in document 01's order.
+#[tactic(auto, using(crate::proofs::Decisions::tests_unknown, crate::proofs::Decisions::tests_large, crate::proofs::Decisions::tests_many))]
 fn tested(variables: usize, depth: usize, lists: &[u64; 1056], x: usize, v: usize) -> DecisionAnswer
     requires { (depth ≤ decision_limit) × (variables ≤ 32) }
     ensures { Tested variables depth lists.now x v (decision_number result) }

@@ -22,7 +22,7 @@ fn reason(refusal: Refusal) -> u8 {
     }
 }
 
-#[derive(Drop)]
+#[derive(Clone, Copy)]
 struct Banned {
     state: State,
     letters: [u8; 35],

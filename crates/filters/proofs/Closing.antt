@@ -1,6 +1,6 @@
 -- Lists that are closed by a rule and by all rules. Assumes nothing.
 use mathlib.Core.Path.{◌≡◌, refl, sym, ap, ◌∙◌}
-use mathlib.Core.Logic.{◌⊎◌, ⊎_elim, by_cases}
+use mathlib.Core.Logic.{⊎_elim, by_cases}
 use mathlib.Core.List.Memᴰ
 use mathlib.Core.List.{List, [], ◌∷◌, Memᴰ}
 use Prim.Native.Nat.{ℕ, zero, suc, ◌<◌}

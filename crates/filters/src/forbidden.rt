@@ -91,6 +91,7 @@ fn count_live(
 }
 
 // The values of the set m that are counted fewer than limit times at place j.
+#[tactic(auto, using(crate::proofs::Walking::fewer_steps))]
 fn fewer(m: u64, counts: &[u16], j: usize, limit: usize) -> u64
     requires { (j < arity_limit) × (j * value_limit + value_limit ≤ length counts.now) }
     ensures { FewerAt counts.now j limit m result }

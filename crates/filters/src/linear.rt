@@ -15,7 +15,7 @@ const ZERO_COEFFICIENT: usize = 1000;
 const ZERO_BOUND: usize = 5000000;
 
 // Whether the least sum fits the bound, and by how much.
-#[derive(Drop)]
+#[derive(Clone, Copy)]
 struct Slack {
     fits: bool,
     by: usize,

@@ -18,7 +18,7 @@ use search::{Rota, first_reaching};
 use state::State;
 
 // What solving answers.
-#[derive(Drop)]
+#[derive(Clone, Copy)]
 pub enum Solved {
     Found,
     Inconsistent,

@@ -34,6 +34,7 @@ fn put_word(out: &mut [u8], at: usize, word: &[u8]) -> usize
 }
 
 // Writes a number's decimal digits from a place on.
+#[tactic(auto, using(crate::proofs::Digits::decimal_below))]
 fn put_number(out: &mut [u8], at: usize, n: usize) -> usize
     requires { at + length (decimal n) ≤ length out.old }
     ensures { Put out.old at (decimal n) out.new result }
@@ -94,6 +95,7 @@ pub fn write_refused(number: u8, at: usize, out: &mut [u8; LINES]) -> usize
 }
 
 // A solution was found: every variable's value, and the objective values upwards. It writes nothing for more than 32 or 16 of them.
+#[tactic(auto, using(crate::proofs::Found::values_too_many, crate::proofs::Found::sorted_too_many))]
 pub fn write_found(values: &[u8], sorted: &[u8], out: &mut [u8; LINES]) -> usize
     ensures { WritesFound values.now sorted.now out.old out.new result }
 {

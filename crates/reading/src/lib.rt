@@ -7,7 +7,7 @@ use refusals::Refusal;
 use text::{NameRead, NumberRead, read_name, read_number, skip_blanks};
 
 // How far the reading came: a fault, at a byte; or a number, and the place after it.
-#[derive(Drop)]
+#[derive(Clone, Copy)]
 pub enum Step {
     Fault(Refusal, usize),
     Read(usize, usize),

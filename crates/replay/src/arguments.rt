@@ -5,7 +5,7 @@ use crate::digits::{Number, Signed, decimal, hexadecimal, with_sign};
 use crate::words::{Word, is_over, next_word};
 
 // A variable and a value.
-#[derive(Drop)]
+#[derive(Clone, Copy)]
 pub(crate) struct Pair {
     pub(crate) fits: bool,
     pub(crate) variable: u8,

@@ -5,14 +5,14 @@ ghost use Rattle.std.specs.Prelude.{◌≤◌, ◌<◌};
 pub(crate) const MOST: u64 = 0xffff_ffff_ffff_ffff;
 
 // A number, 0 where the word says none that fits.
-#[derive(Drop)]
+#[derive(Clone, Copy)]
 pub(crate) struct Number {
     pub(crate) fits: bool,
     pub(crate) value: u64,
 }
 
 // The same with a sign.
-#[derive(Drop)]
+#[derive(Clone, Copy)]
 pub(crate) struct Signed {
     pub(crate) fits: bool,
     pub(crate) value: i32,

@@ -7,7 +7,7 @@ use crate::words::is_over;
 use refusals::Answer;
 use state::State;
 
-#[derive(Drop)]
+#[derive(Clone, Copy)]
 pub(crate) struct Desk {
     pub(crate) state: State,
     // how many were added

@@ -9,7 +9,7 @@ use crate::words::{is_word, next_word};
 pub(crate) const NUMBERS: usize = 16_384;
 
 // How many numbers stand in the list, and the place after the word that ends it.
-#[derive(Drop)]
+#[derive(Clone, Copy)]
 pub(crate) struct List {
     pub(crate) fits: bool,
     pub(crate) count: usize,

@@ -12,7 +12,7 @@ use crate::nodes::narrow;
 use crate::spreading::rules_on;
 
 // A value for each variable, where such were found; later places are 0.
-#[derive(Drop)]
+#[derive(Clone, Copy)]
 pub struct Rota {
     pub found: bool,
     pub values: [u8; 32],
@@ -76,7 +76,7 @@ fn none() -> Rota
 }
 
 // The lowest and the highest value of a set.
-#[derive(Drop)]
+#[derive(Clone, Copy)]
 struct Ends {
     low: usize,
     high: usize,

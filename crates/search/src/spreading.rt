@@ -8,7 +8,7 @@ ghost use Rattle.search.specs.Spreading.{Touching, Noted, Due, AffectedBy, InVar
 use filters::filter_rule;
 
 // Which rules may drop values once some lists have changed, and whether one of those lists is empty.
-#[derive(Drop)]
+#[derive(Clone, Copy)]
 pub(crate) struct Affected {
     pub(crate) rules: u64,
     pub(crate) empty: bool,

@@ -7,7 +7,7 @@ ghost use Rattle.search.specs.Thresholds.{Aims, Open, Tops, Lifted, Raised};
 use blocks::keep;
 
 // Whether the thresholds are within reach, and the set of the variables whose lists changed.
-#[derive(Drop)]
+#[derive(Clone, Copy)]
 pub(crate) struct Verdict {
     pub(crate) alive: bool,
     pub(crate) changed: u64,

@@ -2,16 +2,16 @@
 use mathlib.Core.Path.{◌≡◌, refl, sym, ap, ◌∙◌}
 use mathlib.Core.Logic.{◌⊎◌, inr, ⊎_elim, by_cases}
 use mathlib.Core.List.{List, [], ◌∷◌, ◌++◌}
-use Prim.Native.Nat.{ℕ, zero, suc, ◌+◌, ◌-◌, ◌*◌, ◌≤◌, ◌<◌}
+use Prim.Native.Nat.{ℕ, zero, suc, ◌+◌, ◌*◌, ◌≤◌, ◌<◌}
 use native.Mathlib.Decide.{ℕ_discrete}
 use native.Mathlib.Omega.{arith}
 use lib.ListN.{length, get_or, take, length-append, get_or-eq_default}
 use lib.Seq.{sets, length-sets, length-take-le, take_at, take-length}
 use Rattle.meaning.specs.Limits.{variable_limit}
-use Rattle.meaning.specs.Rules.{Rule, room}
+use Rattle.meaning.specs.Rules.{Rule}
 use Rattle.meaning.specs.Standing.{Standing}
 use Rattle.meaning.specs.Lists.{Largest}
-use Rattle.meaning.specs.Calls.{Call, held, with_rule}
+use Rattle.meaning.specs.Calls.{Call, with_rule}
 use Rattle.meaning.specs.Histories.{Leaves}
 use Rattle.meaning.specs.Proper.{Proper}
 use Rattle.meaning.proofs.Steps.{rule_between}
@@ -176,3 +176,10 @@ module _ (s : State) (k : ℕ) (ready : Followable s k) (b K l : List ℕ) (c : 
     largest = rw eb at (follows_some s.heads s.room s.rules k ready.known closed_before f M m);
     is = ap (with_lists s) el;
   }
+
+  -- from any lists that are those
+  pub stays : (M : List ℕ) → l ≡ sets s.lists (variable_limit * 0) M → M ≡ K → c ≡ 0 → Followed s (with_lists s l)
+  stays M el e z = followed_none z (rw e at el)
+
+  pub goes_on : (M N : List ℕ) → l ≡ sets s.lists (variable_limit * 0) M → M ≡ N → LargestIn (rules_at s.heads s.room s.rules) K N → Followed s (with_lists s l)
+  goes_on M N el e m = followed_some N m (rw e at el)

@@ -7,7 +7,7 @@ use native.Mathlib.Nat.{le_refl}
 use lib.ListN.{length}
 use lib.Seq.{take-length}
 use Rattle.meaning.specs.Limits.{variable_limit, rule_limit, room_limit, objective_limit, decision_limit}
-use Rattle.meaning.specs.Standing.{Standing, Decision, nothing}
+use Rattle.meaning.specs.Standing.{Standing, Decision}
 use Rattle.meaning.specs.Lists.{Largest}
 use Rattle.meaning.proofs.Proper.{leaves_proper}
 use Rattle.state.specs.declared.State.{State}

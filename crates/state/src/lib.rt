@@ -25,13 +25,13 @@ pub struct State {
     pub lists: [u64; 1056],
 }
 
-#[derive(Drop)]
+#[derive(Clone, Copy)]
 pub enum Sort {
     Allow,
     Forbid,
 }
 
-#[derive(Drop)]
+#[derive(Clone, Copy)]
 pub struct AfterCall {
     pub answer: Answer,
     pub state: State,

@@ -11,7 +11,7 @@ pub use reading::{read_name, read_number};
 pub use words::skip_blanks;
 
 // A mark is none of the digits; a token that holds a bad byte is malformed.
-#[derive(Drop)]
+#[derive(Clone, Copy)]
 pub enum ByteSort {
     Blank,
     Digit,
@@ -20,7 +20,7 @@ pub enum ByteSort {
 }
 
 // The next token: where it begins and, where it is a number, which, and the place after it.
-#[derive(Drop)]
+#[derive(Clone, Copy)]
 pub enum NumberRead {
     Malformed {
         start: usize,
@@ -33,7 +33,7 @@ pub enum NumberRead {
 }
 
 // The same for a name.
-#[derive(Drop)]
+#[derive(Clone, Copy)]
 pub enum NameRead {
     NoName { start: usize },
     Name { after: usize },

@@ -4,7 +4,7 @@ ghost use Rattle.text.specs.Tokens.{ReadsNumber, ReadsName};
 use crate::tokens::{name_from, number_from};
 use crate::{NameRead, NumberRead};
 
-#[derive(Drop)]
+#[derive(Clone, Copy)]
 pub struct Reader<'a> {
     text: &'a [u8],
     at: usize,

@@ -25,6 +25,7 @@ pub fn are_same(a: &[u8], b: &[u8]) -> bool
 }
 
 // Whether a tuple is one of those that the cells make, each of as many cells as it has.
+#[tactic(auto, using(crate::proofs::Rows::listed_here, crate::proofs::Rows::listed_on))]
 pub fn is_listed(tuple: &[u8], cells: &[u8]) -> bool
     ensures { IsListed tuple.now cells.now result }
 {

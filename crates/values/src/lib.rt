@@ -7,6 +7,7 @@ ghost use Rattle.values.specs.Sets.{Tells, Alone, Removed, Added, Shared, Less, 
 pub const VALUES: usize = 64;
 
 // Whether v is in m.
+#[tactic(auto, using(crate::proofs::One::tells_digit, crate::proofs::One::tells_none))]
 pub fn has(m: u64, v: usize) -> bool
     ensures { Tells m v result }
 {
@@ -97,6 +98,7 @@ pub fn first_values(s: usize) -> u64
 }
 
 // Whether m has exactly one value.
+#[tactic(auto, using(crate::proofs::Drop::single_dropped, crate::proofs::Drop::single_empty))]
 pub fn is_single(m: u64) -> bool
     ensures { TellsSingle m result }
 {

@@ -12,7 +12,7 @@ use refusals::Refusal;
 const VALUES: usize = 64;
 
 // What the first line says; zeros where it has a fault.
-#[derive(Drop)]
+#[derive(Clone, Copy)]
 pub(crate) struct Header {
     pub(crate) step: Step,
     pub(crate) variables: usize,

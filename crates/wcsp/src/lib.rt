@@ -17,14 +17,14 @@ mod tables;
 use loading::load;
 
 // What a file comes to: accepted, or refused at a byte.
-#[derive(Drop)]
+#[derive(Clone, Copy)]
 pub enum Outcome {
     Accepted,
     Refused(Refusal, usize),
 }
 
 // The outcome, how many variables the file has, and the state.
-#[derive(Drop)]
+#[derive(Clone, Copy)]
 pub struct Loaded {
     pub outcome: Outcome,
     pub variables: usize,

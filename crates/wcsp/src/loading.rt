@@ -14,7 +14,7 @@ use reading::{Step, read_end};
 use state::State;
 
 // How far the reading came; the number of variables and the state count where it came to the end.
-#[derive(Drop)]
+#[derive(Clone, Copy)]
 pub(crate) struct Attempt {
     pub(crate) step: Step,
     pub(crate) variables: usize,

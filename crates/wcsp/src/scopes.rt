@@ -12,7 +12,7 @@ use refusals::Refusal;
 use text::{NumberRead, read_number};
 
 // The variables read, in the first places.
-#[derive(Drop)]
+#[derive(Clone, Copy)]
 pub(crate) struct Scope {
     pub(crate) step: Step,
     pub(crate) variables: [u8; 8],

@@ -11,7 +11,7 @@ use reading::{Step, number_within};
 use refusals::Refusal;
 
 // The sizes read, in the first places.
-#[derive(Drop)]
+#[derive(Clone, Copy)]
 pub(crate) struct Sizes {
     pub(crate) step: Step,
     pub(crate) sizes: [u8; VARIABLES],

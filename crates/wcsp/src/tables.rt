@@ -17,7 +17,7 @@ use state::{Sort, State};
 use text::{NumberRead, read_number};
 
 // A table's variables in the first places; its cells are in the lent buffer.
-#[derive(Drop)]
+#[derive(Clone, Copy)]
 struct Table {
     step: Step,
     sort: Sort,
@@ -27,7 +27,7 @@ struct Table {
 }
 
 // The state that the tables read so far leave.
-#[derive(Drop)]
+#[derive(Clone, Copy)]
 pub(crate) struct Added {
     pub(crate) step: Step,
     pub(crate) state: State,

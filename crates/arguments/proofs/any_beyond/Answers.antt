@@ -1,6 +1,5 @@
 -- `arguments::any_beyond` meets its contract. The loop: what the rest says is what the whole list says.
 use mathlib.Core.Path.{sym, ap, ◌∙◌}
-use Prim.Native.Nat.{◌-◌}
 use borrow.Author.Rules.{rules}
 use lib.IntN.{pos}
 use lib.ListN.{get_or}

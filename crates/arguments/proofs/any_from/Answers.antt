@@ -1,5 +1,4 @@
 -- `arguments::any_from` meets its contract. The loop: what the rest says is what the whole list says.
-use Prim.Native.Nat.{◌-◌}
 use borrow.Author.Rules.{rules}
 use lib.Dec.{leb}
 use borrow.Author.Tests.{le-leb, lt-leb}

@@ -1,5 +1,4 @@
 -- `arguments::is_named` meets its contract. The loop: what the rest says is what the whole list says.
-use Prim.Native.Nat.{◌-◌}
 use borrow.Author.Rules.{rules}
 use borrow.Author.Tests.{eq-eqb, ne_eqb}
 use lib.Dec.{eqb}

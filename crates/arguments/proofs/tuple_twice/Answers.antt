@@ -5,28 +5,25 @@ use mathlib.Core.Bool.{false}
 use Prim.Native.Nat.{◌-◌, ◌<◌}
 use native.Mathlib.Omega.{arith}
 use borrow.Author.Rules.{rules}
-use Rattle.arguments.proofs.Keys.{passed_none, unmarked_once, passed_one, found_twice, no_tuples}
+use Rattle.arguments.proofs.Keys.{passed_none, unmarked_once, passed_one, found_twice}
 use Rattle.tuples.proofs.Rows.{part_is}
 use Rattle.arguments.specs.Checks.{listed_again}
 use Rattle.tuples.specs.Keys.{key_from}
 use Rattle.arguments.proofs.tuple_twice.Goals as goal
 
-pub returns-then-arity-eq0 : goal.returns-then-arity-eq0
-returns-then-arity-eq0 c = no_tuples c.args.cells.now c.if-arity-eq0.true
-
 pub loop-place-init : goal.loop-place-init
-loop-place-init c = let a = c.args in passed_none a.arity (omega (arith, c.if-arity-eq0.false)) a.cells.now _ refl
+loop-place-init c = let a = c.args in passed_none a.arity (omega arith) a.cells.now _ refl
 
 pub returns-then-listed_again : goal.returns-then-listed_again
 returns-then-listed_again c = let a = c.args in
     let l = c.loop-place in
-    let some : 0 < a.arity = omega (arith, c.if-arity-eq0.false) in
+    let some : 0 < a.arity = omega arith in
     found_twice a.arity some a.cells.now l.place l.marked l.invariant (search rules) (sym c.listed_again.ensures ∙ c.if-listed_again.true)
 
 pub loop-place-preserved : goal.loop-place-preserved
 loop-place-preserved c = let a = c.args in
     let l = c.loop-place in
-    let some : 0 < a.arity = omega (arith, c.if-arity-eq0.false) in
+    let some : 0 < a.arity = omega arith in
     let key = c.key_of-key in
     let key_is = key.ensures.0 ∙ ap (key_from 0) (part_is a.arity a.cells.now (l.place - a.arity)) in
     let once : listed_again a.arity a.cells.now (l.place - a.arity) ≡ false =

@@ -1,5 +1,4 @@
 -- `arguments::tuple_twice` meets its contract. The loop: no tuple from the place on stands twice, and their keys are marked.
-use Prim.Native.Nat.{◌-◌}
 use Rattle.arguments.proofs.Keys.{Passed}
 use Rattle.arguments.proofs.tuple_twice.Given as goal
 

@@ -1,5 +1,5 @@
 -- `blocks::clear_after` meets its contract. The loop: the places from the first up to the i-th are empty.
-use Prim.Native.Nat.{◌+◌, ◌-◌, ◌*◌}
+use Prim.Native.Nat.{◌+◌, ◌*◌}
 use Rattle.blocks.proofs.Copying.{zero_more}
 use borrow.Author.Rules.{rules}
 use Rattle.blocks.proofs.clear_after.Goals as goal

@@ -1,5 +1,4 @@
 -- `blocks::lists_after` meets its contract. The loop: the first x lists are read.
-use Prim.Native.Nat.{◌-◌}
 use Rattle.blocks.proofs.Reading.{read_all}
 use Rattle.blocks.proofs.lists_after.Goals as goal
 

@@ -1,5 +1,5 @@
 -- `blocks::put_lists` meets its contract. The loop: the first x lists are written.
-use Prim.Native.Nat.{◌-◌, ◌*◌}
+use Prim.Native.Nat.{◌*◌}
 use mir.Syntax.{w64}
 use native.Mathlib.Omega.{arith}
 use Rattle.blocks.proofs.Arrays.{array_length}

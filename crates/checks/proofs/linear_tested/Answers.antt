@@ -4,7 +4,6 @@ use mathlib.Core.Bool.{not}
 use mathlib.Core.Logic.{⊎_elim}
 use Prim.Native.Nat.{◌≤◌, ◌<◌}
 use native.Mathlib.Omega.{arith}
-use borrow.Author.Tests.{ltb-true, ltb-false, eqb-true}
 use mir.Facts.{to_z-of_z}
 use lib.Dec.{eqb}
 use lib.ListN.{length}
@@ -12,17 +11,16 @@ use Rattle.meaning.specs.Limits.{term_limit, coefficient_limit, bound_limit}
 use Rattle.meaning.specs.Calls.{some, beyond}
 use Rattle.meaning.proofs.Tests.{far_first, far_then, near_both}
 use Rattle.checks.proofs.Testing.{wrong_low, wrong_high, wrong_other, linear_decided, linear_length, linear_unknown, linear_twice, linear_beyond, linear_full, linear_accepted, twice_and_one}
-use borrow.Author.Rules.{rules}
 use Rattle.checks.proofs.linear_tested.Goals as goal
 use Rattle.checks.proofs.linear_tested.Goals.{Else-coefficients-arity}
 
 -- what the first two tests have shown
 module _ (c : Else-coefficients-arity) where
   free : c.args.depth ≡ 0
-  free = omega (arith, c.if-depth-gt0.false)
+  free = omega arith
 
   size : (0 < length c.args.scope.now) × (length c.args.scope.now ≤ term_limit)
-  size = (omega (arith, c.if-arity-eq0.false), ltb-false _ _ c.if-arity-gt32.false-raw)
+  size = (omega arith, omega arith)
 
   long : length c.args.coefficients.now ≡ length c.args.scope.now
   long = c.if-coefficients-arity.false
@@ -39,7 +37,7 @@ returns-then-arity-eq0 c =
     let other = not (eqb (length a.coefficients.now) n) in
     linear_length a.variables a.depth a.rules a.used a.scope.now a.coefficients.now a.bound (omega (arith, c.if-depth-gt0.false))
     (⊎_elim (λ w. wrong_low term_limit n other w.if-arity-eq0.true)
-    (⊎_elim (λ w. wrong_high term_limit n other w.if-arity-gt32.true) (λ w. wrong_other term_limit n other w.if-coefficients-arity.true-raw))
+    (⊎_elim (λ w. wrong_high term_limit n other (omega arith)) (λ w. wrong_other term_limit n other w.if-coefficients-arity.true-raw))
     c.then-arity-eq0.branch-raw)
 
 pub returns-then-any_unknown : goal.returns-then-any_unknown

@@ -4,12 +4,11 @@ use mathlib.Core.Bool.{not}
 use mathlib.Core.Logic.{⊎_elim}
 use Prim.Native.Nat.{◌%◌, ◌≤◌, ◌<◌}
 use native.Mathlib.Omega.{arith}
-use borrow.Author.Tests.{ltb-true, ltb-false, eqb-true}
+use borrow.Author.Tests.{ltb-false}
 use lib.Dec.{eqb}
 use lib.ListN.{length}
 use Rattle.meaning.specs.Limits.{arity_limit}
 use Rattle.checks.proofs.Testing.{wrong_low, wrong_high, wrong_other, table_decided, table_length, table_unknown, table_twice, table_large, table_again, table_full, table_accepted}
-use borrow.Author.Rules.{rules}
 use Rattle.checks.proofs.table_tested.Goals as goal
 use Rattle.checks.proofs.table_tested.Goals.{Else-cells-arity-ne0}
 

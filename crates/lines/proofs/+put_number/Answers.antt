@@ -7,9 +7,6 @@ use Rattle.lines.proofs.+put_number.Goals as goal
 pub put_byte-requires : goal.put_byte-requires
 put_byte-requires t c = omega (arith, ap length (decimal_below c.args.n (omega arith)))
 
-pub returns-then-n-lt10 : goal.returns-then-n-lt10
-returns-then-n-lt10 t c = put_as (sym (decimal_below c.args.n (omega arith))) c.put_byte.ensures
-
 pub put_number-end-requires : goal.put_number-end-requires
 put_number-end-requires t c = (omega arith, omega (arith, decimal_longer c.args.n c.ranges.n.fits (omega arith)))
 

@@ -1,5 +1,4 @@
 -- `lines::put_numbers` meets its contract. The loop: the first j numbers are written.
-use Prim.Native.Nat.{◌-◌}
 use native.Mathlib.Omega.{arith}
 use borrow.Author.Rules.{rules}
 use Rattle.lines.proofs.Digits.{numbers_more, numbers_room}
@@ -13,7 +12,6 @@ put_field-end-requires c =
 
 pub loop-j-preserved : goal.loop-j-preserved
 loop-j-preserved c =
-    
     let l = c.loop-j in (
       search rules,
       search rules,

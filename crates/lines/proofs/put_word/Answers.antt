@@ -1,5 +1,4 @@
 -- `lines::put_word` meets its contract. The loop: the first j bytes are written.
-use Prim.Native.Nat.{◌-◌}
 use borrow.Author.Rules.{rules}
 use Rattle.lines.proofs.Putting.{put_next}
 use Rattle.lines.proofs.put_word.Goals as goal

@@ -19,15 +19,15 @@ pub returns-then-depth-gt0 : goal.returns-then-depth-gt0
 returns-then-depth-gt0 c =
     let s = c.args.s in
     refuses s (add_variable c.args.marks) Decided c.refused.result.answer c.refused.result.state c.refused.ensures
-    (λ w L p h m. finds (tests w L (add_variable c.args.marks)) _ (inl (lt-ltb 0 (length w.decisions) (omega (arith, c.if-depth-gt0.true, h.depth)), refl)))
+    (λ w L p h m. finds (tests w L (add_variable c.args.marks)) _ (inl (lt-ltb 0 (length w.decisions) (omega (arith, h.depth)), refl)))
 
 pub returns-then-n-ge32 : goal.returns-then-n-ge32
 returns-then-n-ge32 c =
     let s = c.args.s in
     refuses s (add_variable c.args.marks) Full c.refused-then-n-ge32.result.answer c.refused-then-n-ge32.result.state c.refused-then-n-ge32.ensures
     (λ w L p h m. finds (tests w L (add_variable c.args.marks)) _ (inr (
-      le-ltb 0 (length w.decisions) (omega (arith, c.if-depth-gt0.false, h.depth)),
-      inl (le-leb variable_limit (length w.declared) (omega (arith, c.if-n-ge32.true, h.variables)), refl),
+      le-ltb 0 (length w.decisions) (omega (arith, h.depth)),
+      inl (le-leb variable_limit (length w.declared) (omega (arith, h.variables)), refl),
     )))
 
 pub returns : goal.returns
@@ -35,8 +35,8 @@ returns c =
     let s = c.args.s in
     let m = c.args.marks in
     accepts s (add_variable m) (with_variable s m) λ k w L l h most.
-    let none : length w.decisions ≡ 0 = omega (arith, c.if-depth-gt0.false, h.depth) in
-    let few : length w.declared < variable_limit = omega (arith, c.if-n-ge32.false, h.variables) in (
+    let none : length w.decisions ≡ 0 = omega (arith, h.depth) in
+    let few : length w.declared < variable_limit = omega (arith, h.variables) in (
       finds (tests w L (add_variable m)) 0 (inr (le-ltb 0 (length w.decisions) (omega arith), inr (lt-leb variable_limit (length w.declared) few, refl))),
       variable_held s w m (leaves_proper l) h (none_of w.decisions none) few,
     )

@@ -1,5 +1,4 @@
 -- `tuples::are_same` meets its contract. The loop: the rests are the same where the tuples are.
-use Prim.Native.Nat.{◌-◌}
 use borrow.Author.Rules.{rules}
 use Rattle.tuples.proofs.Comparing.{unequal_lengths, same_passed, same_differs, same_ends}
 use Rattle.tuples.proofs.are_same.Goals as goal

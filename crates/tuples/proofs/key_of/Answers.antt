@@ -1,5 +1,4 @@
 -- `tuples::key_of` meets its contract. The loop: the rest takes its key to the whole tuple's.
-use Prim.Native.Nat.{◌-◌}
 use native.Mathlib.Omega.{arith}
 use borrow.Author.Rules.{rules}
 use Rattle.tuples.proofs.Comparing.{key_next, key_last}

@@ -4,6 +4,5 @@ use Rattle.values.proofs.without.Goals as goal
 
 pub returns : goal.returns
 returns c =
-    
     let only = c.only in
     removed_less c.args.m c.args.v only.result only.ensures c.less.result c.ranges.m.fits c.less.ensures

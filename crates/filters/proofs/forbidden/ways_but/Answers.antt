@@ -1,5 +1,4 @@
 -- `filters::forbidden::ways_but` meets its contract.
-use Prim.Native.Nat.{◌-◌}
 use mathlib.Core.Logic.{⊎_elim}
 use borrow.Author.Rules.{rules}
 use Rattle.filters.proofs.Ways.{ways_none, ways_other, ways_same, ways_fit}

@@ -1,6 +1,6 @@
 -- `filters::linear::keep_near` meets its contract. The loop's invariant: the places passed are sifted.
 use mathlib.Core.Path.{◌≡◌, ◌∙◌, subst}
-use Prim.Native.Nat.{ℕ, ◌+◌, ◌-◌}
+use Prim.Native.Nat.{ℕ, ◌+◌}
 use native.Mathlib.Omega.{arith}
 use Rattle.filters.specs.Layout.{scope_at}
 use Rattle.filters.specs.Sifting.{Sifted}

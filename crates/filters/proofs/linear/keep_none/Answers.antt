@@ -1,6 +1,5 @@
 -- `filters::linear::keep_none` meets its contract. The loop's invariant: the places passed are sifted.
 use mathlib.Core.Path.{◌∙◌}
-use Prim.Native.Nat.{◌-◌}
 use native.Mathlib.Omega.{arith}
 use Rattle.filters.proofs.Sifting.{sifted_none}
 use Rattle.filters.proofs.Turns.{variable_small, turn_none}

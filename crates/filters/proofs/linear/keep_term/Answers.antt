@@ -1,5 +1,4 @@
 -- `filters::linear::keep_term` meets its contract.
-use Prim.Native.Nat.{◌-◌}
 use lib.ListN.{get_or}
 use Rattle.filters.specs.Linear.{Near}
 use Rattle.filters.proofs.Sifting.{all_narrowed, kept_narrowed}

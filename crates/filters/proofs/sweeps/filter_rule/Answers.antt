@@ -1,11 +1,10 @@
 -- `filters::sweeps::filter_rule` meets its contract.
-use borrow.Author.Tests.{leb-false}
+use native.Mathlib.Omega.{arith}
 use Rattle.filters.proofs.Laid.{rules_ready}
-use borrow.Author.Rules.{rules}
 use Rattle.filters.proofs.sweeps.filter_rule.Goals as goal
 
 pub filter_at-requires : goal.filter_at-requires
 filter_at-requires c =
     let a = c.args in
     let ready = rules_ready c.requires in
-    record { placed = ready.placed a.k (leb-false a.rules a.k c.if-rules-k.false-raw); room_len = (ready.filled, c.if-lists-ne32.false) }
+    record { placed = ready.placed a.k (omega arith); room_len = (ready.filled, c.if-lists-ne32.false) }

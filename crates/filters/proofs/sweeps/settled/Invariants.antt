@@ -6,7 +6,6 @@ use Rattle.meaning.specs.Limits.{variable_limit}
 use Rattle.meaning.specs.Lists.{Closed}
 use Rattle.filters.specs.Layout.{rules_at}
 use Rattle.filters.specs.Filter.{weight, Toward}
-use borrow.Author.Rules.{rules}
 use Rattle.filters.proofs.sweeps.settled.Given as goal
 
 abbrev pub invariant-loop-changed : goal.invariant-loop-changed

@@ -1,5 +1,4 @@
 -- `filters::sweeps::sweep` meets its contract. After k rules the lists are swept by the first k.
-use Prim.Native.Nat.{◌-◌}
 use mathlib.Core.Path.{◌∙◌}
 use borrow.Author.Rules.{rules}
 use Rattle.filters.proofs.Sweeping.{rules_none, rules_more, sweeping_none, sweeping_more}

@@ -1,7 +1,6 @@
 -- `filters::sweeps::sweep` meets its contract. After k rules the lists are swept by the first k.
 use Prim.Native.Nat.{◌≤◌, ◌-◌}
 use mathlib.Core.Path.{◌≡◌}
-use borrow.Author.Rules.{rules}
 use lib.ListN.{length}
 use Rattle.meaning.specs.Limits.{variable_limit}
 use Rattle.filters.specs.Layout.{rules_at}

@@ -1,5 +1,4 @@
 -- `filters::tables::keep_each` meets its contract.
-use Prim.Native.Nat.{◌-◌}
 use mathlib.Core.Path.{◌∙◌}
 use borrow.Author.Rules.{rules}
 use Rattle.filters.specs.Layout.{scope_at}

@@ -4,7 +4,6 @@ use mir.Facts.{to_z-of_z}
 use Rattle.refusals.specs.Numbers.{number_of}
 use Rattle.state.proofs.Testing.{linear_tested}
 use Rattle.state.proofs.NewLinear.{linear_followable, linear_answers}
-use borrow.Author.Rules.{rules}
 use Rattle.state.proofs.adding.add_linear.Goals as goal
 
 pub with_linear-requires : goal.with_linear-requires

@@ -5,7 +5,6 @@ use Rattle.refusals.specs.Numbers.{number_of}
 use Rattle.state.specs.Promises.{sort_said}
 use Rattle.state.proofs.Testing.{table_tested}
 use Rattle.state.proofs.Extending.{added_followable, added_answers, added_refused}
-use borrow.Author.Rules.{rules}
 use Rattle.state.proofs.adding.add_table.Goals as goal
 
 pub with_table-requires : goal.with_table-requires

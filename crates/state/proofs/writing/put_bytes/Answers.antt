@@ -1,6 +1,5 @@
 -- `state::writing::put_bytes` meets its contract. The loop: the first j bytes are written.
 use mathlib.Core.Path.{refl}
-use Prim.Native.Nat.{◌-◌}
 use borrow.Author.Rules.{rules}
 use Rattle.state.proofs.Putting.{put_next}
 use Rattle.state.proofs.writing.put_bytes.Goals as goal

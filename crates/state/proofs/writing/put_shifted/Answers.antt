@@ -1,6 +1,5 @@
 -- `state::writing::put_shifted` meets its contract. The loop: the first j coefficients are written.
 use mathlib.Core.List.{map}
-use Prim.Native.Nat.{◌-◌}
 use native.Mathlib.Omega.{arith}
 use borrow.Author.Rules.{rules}
 use lib.IntN.{pos}
