@@ -6,6 +6,7 @@ use Prim.Native.Nat.{ℕ, ◌+◌, ◌*◌, ◌≤◌, ◌<◌}
 use native.Mathlib.Decide.{ℕ_discrete}
 use native.Mathlib.Omega.{arith}
 use borrow.Author.Tests.{le-leb, lt-leb, eq-eqb, ne_eqb}
+use lib.Dec.{leb}
 use lib.ListN.{length, get_or, set, take, length-append, length-set, get_or-eq_default}
 use lib.Seq.{sets, get_or-set_same, get_or-set_other, set-get_or, length-take-le}
 use Rattle.meaning.specs.Limits.{value_limit, variable_limit, decision_limit}
@@ -21,7 +22,6 @@ use Rattle.meaning.proofs.Steps.{cut_between, pin_cut, ban_cut}
 use Rattle.values.specs.Sets.{Alone, Removed}
 use Rattle.state.specs.declared.State.{State}
 use Rattle.refusals.specs.declared.Refusal.{Refusal}
-use Rattle.refusals.specs.declared.Refusal.TheVariants.{NoSuchVariable}
 use Rattle.decide.specs.declared.Left.TheVariants as Lefts
 use Rattle.decide.specs.declared.DecisionAnswer.{DecisionAnswer}
 use Rattle.decide.specs.declared.DecisionAnswer.TheVariants as DecisionAnswers
@@ -268,11 +268,11 @@ module _ (s : State) (x v : ℕ) (a : DecisionAnswer) (tested : Tested s.variabl
 
 -- ---- the values left
 
-pub left_unknown : (s : State) (x : ℕ) → s.variables ≤ x → TellsLeft s x (Lefts.Refused NoSuchVariable)
-left_unknown s x out h w L l hold most = (
-  sym (finds ((unknown w x, no_such_variable) ∷ []) (number no_such_variable) (inl (le-leb (length w.declared) x (omega (arith, hold.variables)), refl))),
-  sym (get_or-eq_default L 0 {n = x} (omega (arith, hold.variables, most.long))),
-)
+pub unknown_number : (n x : ℕ) → n ≤ x → first ((leb n x, no_such_variable) ∷ []) ≡ number no_such_variable
+unknown_number n x out = finds ((leb n x, no_such_variable) ∷ []) (number no_such_variable) (inl (le-leb n x out, refl))
+
+pub none_past : (L : List ℕ) (x : ℕ) → length L ≤ x → get_or L x 0 ≡ 0
+none_past L x out = get_or-eq_default L 0 {n = x} out
 
 pub left_known : (s : State) (x m : ℕ) → x < s.variables → m ≡ get_or s.lists (variable_limit * s.depth + x) 0 → TellsLeft s x (Lefts.Values m)
 left_known s x m known e h w L l hold most = (

@@ -114,6 +114,7 @@ fn narrowed(s: State, x: usize, kept: u64) -> State
 }
 
 // Keeps the first k decisions and drops the later ones.
+#[tactic(auto, using(crate::proofs::TakingBack::back_refused))]
 pub fn take_back(s: State, k: usize) -> AfterCall
     requires { Reached s }
     ensures { TakesBack s k result.answer result.state }
@@ -135,6 +136,7 @@ pub fn take_back(s: State, k: usize) -> AfterCall
 }
 
 // The values left to the variable x.
+#[tactic(auto, using(crate::proofs::Decisions::unknown_number, crate::proofs::Decisions::none_past))]
 pub fn values_left(s: State, x: u8) -> Left
     requires { Reached s }
     ensures { TellsLeft s x result }

@@ -1,18 +1,23 @@
 -- The state in which nothing stands, and a state with one variable more. Assumes nothing.
 use mathlib.Core.Path.{◌≡◌, refl, sym, ap, ◌∙◌}
 use mathlib.Core.Logic.{◌⊎◌, inl, inr, ⊎_elim}
+use mathlib.Core.Bool.{Bool}
 use mathlib.Core.List.{List, [], ◌∷◌, ◌++◌}
 use Prim.Native.Nat.{ℕ, zero, suc, ◌+◌, ◌*◌, ◌≤◌, ◌<◌}
 use native.Mathlib.Omega.{arith}
+use borrow.Author.Tests.{lt-ltb, le-ltb, le-leb}
+use lib.Dec.{leb, ltb}
 use lib.ListN.{length, get_or, set, replicate, length-replicate, length-append, length-set}
 use lib.Seq.{take-nil, take-suc-set, get_or-set_other}
 use Rattle.meaning.specs.Limits.{variable_limit, rule_limit, room_limit, objective_limit, decision_limit}
 use Rattle.meaning.specs.Standing.{Standing, Decision, nothing}
 use Rattle.meaning.specs.Lists.{Largest}
+use Rattle.meaning.specs.Refusals.{Refusal, number, first, decided, full}
 use Rattle.meaning.specs.Calls.{add_variable, accepted, held}
 use Rattle.meaning.specs.Proper.{Proper}
 use Rattle.meaning.proofs.Steps.{nothing_largest, variable_largest}
 use Rattle.state.specs.declared.State.{State}
+use Rattle.meaning.proofs.Finding.{finds}
 use Rattle.filters.specs.Layout.{heads_of, room_of, padded}
 use Rattle.blocks.specs.Blocks.{block}
 use Rattle.state.specs.Holds.{Holds, HoldsLists, up_to}
@@ -101,3 +106,11 @@ module _ (s : State) (w : Standing) (m : ℕ) (p : Proper w) (h : Holds s w) (fr
         depth = h.depth;
         lists = rw v lists_grow;
       }
+
+-- ---- the tests
+
+pub decided_first : (n : ℕ) (others : List (Bool × Refusal)) → 0 < n → first ((ltb 0 n, decided) ∷ others) ≡ number decided
+decided_first n others h = finds ((ltb 0 n, decided) ∷ others) (number decided) (inl (lt-ltb 0 n h, refl))
+
+pub full_then : (n m : ℕ) (others : List (Bool × Refusal)) → n ≡ 0 → variable_limit ≤ m → first ((ltb 0 n, decided) ∷ (leb variable_limit m, full) ∷ others) ≡ number full
+full_then n m others e h = finds ((ltb 0 n, decided) ∷ (leb variable_limit m, full) ∷ others) (number full) (inr (le-ltb 0 n (omega arith), inl (le-leb variable_limit m h, refl)))

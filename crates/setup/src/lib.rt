@@ -30,6 +30,7 @@ pub fn new() -> State
 }
 
 // One variable more, with the values whose bits in marks are 1.
+#[tactic(auto, using(crate::proofs::Variables::decided_first, crate::proofs::Variables::full_then))]
 pub fn add_variable(s: State, marks: u64) -> AfterCall
     requires { Reached s }
     ensures { AddsVariable s marks result.answer result.state }

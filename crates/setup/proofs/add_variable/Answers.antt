@@ -1,34 +1,18 @@
 -- `setup::add_variable` meets its contract.
 use mathlib.Core.Path.{◌≡◌, refl}
-use mathlib.Core.Logic.{inl, inr}
+use mathlib.Core.Logic.{inr}
 use Prim.Native.Nat.{◌<◌}
 use native.Mathlib.Omega.{arith}
-use borrow.Author.Tests.{lt-ltb, le-ltb, le-leb, lt-leb}
+use borrow.Author.Tests.{le-ltb, lt-leb}
 use lib.ListN.{length}
 use Rattle.meaning.specs.Limits.{variable_limit}
 use Rattle.meaning.specs.Calls.{add_variable, tests}
 use Rattle.meaning.proofs.Proper.{leaves_proper}
-use Rattle.refusals.specs.declared.Refusal.TheVariants.{Decided, Full}
 use Rattle.meaning.proofs.Finding.{finds}
-use Rattle.state.proofs.Answering.{refuses, accepts}
+use Rattle.state.proofs.Answering.{accepts}
 use Rattle.state.proofs.Holding.{none_of}
 use Rattle.setup.proofs.Variables.{with_variable, variable_held}
 use Rattle.setup.proofs.add_variable.Goals as goal
-
-pub returns-then-depth-gt0 : goal.returns-then-depth-gt0
-returns-then-depth-gt0 c =
-    let s = c.args.s in
-    refuses s (add_variable c.args.marks) Decided c.refused.result.answer c.refused.result.state c.refused.ensures
-    (λ w L p h m. finds (tests w L (add_variable c.args.marks)) _ (inl (lt-ltb 0 (length w.decisions) (omega (arith, h.depth)), refl)))
-
-pub returns-then-n-ge32 : goal.returns-then-n-ge32
-returns-then-n-ge32 c =
-    let s = c.args.s in
-    refuses s (add_variable c.args.marks) Full c.refused-then-n-ge32.result.answer c.refused-then-n-ge32.result.state c.refused-then-n-ge32.ensures
-    (λ w L p h m. finds (tests w L (add_variable c.args.marks)) _ (inr (
-      le-ltb 0 (length w.decisions) (omega (arith, h.depth)),
-      inl (le-leb variable_limit (length w.declared) (omega (arith, h.variables)), refl),
-    )))
 
 pub returns : goal.returns
 returns c =
