@@ -1,8 +1,8 @@
 // Networks at the limits: 32 variables, 48 rules, 4,096 numbers, 32 decisions, and one more of each.
-use crate::arguments::objectives_call;
 use crate::calls::{ALLOW, BAN, Call, FORBID, LINEAR, OBJECTIVES, PIN, TAKE_BACK, VARIABLE, blank};
 use crate::places::{LONG, SHORT, from, only, plus, put_byte, put_cell, sum, word_at};
 use crate::random::{chance, index, narrow, pick, seed_of, small, wide};
+use crate::random_arguments::objectives_call;
 
 // The calls of a crowded network.
 pub(crate) const CALLS: usize = 76;

@@ -4,7 +4,6 @@
 
 ghost use Rattle.state.specs.Holds.{Reached};
 
-mod arguments;
 mod calls;
 mod counts;
 mod crowded;
@@ -12,6 +11,7 @@ mod library;
 mod networks;
 mod places;
 mod random;
+mod random_arguments;
 mod second;
 mod second_checks;
 mod second_filter;

@@ -1,8 +1,8 @@
 // Random small networks: the calls of each, made from the network's seed and the call's. Some arguments are wrong on purpose.
-use crate::arguments::{linear_call, objectives_call, table_call};
 use crate::calls::{ALLOW, BAN, Call, FORBID, LINEAR, OBJECTIVES, PIN, TAKE_BACK, VARIABLE, blank};
 use crate::places::{SHORT, from, only, plus, word_at};
 use crate::random::{chance, fault, index, pick, small, wide};
+use crate::random_arguments::{linear_call, objectives_call, table_call};
 
 // The calls of a small network.
 pub(crate) const CALLS: usize = 20;

@@ -2,7 +2,7 @@
 ghost use Rattle.std.specs.Prelude.{◌≤◌, length};
 ghost use Rattle.state.specs.Holds.{Reached};
 
-use crate::arguments::{last_mask, last_signed};
+use crate::call_arguments::{last_mask, last_signed};
 use crate::keeping::{Desk, counted, stopped, with_state};
 use crate::lists::{bytes, integers, read_bytes, read_integers};
 use crate::saying;

@@ -2,7 +2,7 @@
 ghost use Rattle.std.specs.Prelude.{◌≤◌, length};
 ghost use Rattle.state.specs.Holds.{Reached};
 
-use crate::arguments::last_number;
+use crate::call_arguments::last_number;
 use crate::digits::MOST;
 use crate::keeping::{Desk, stopped};
 use crate::lists::{bytes, read_bytes};

@@ -2,7 +2,7 @@
 ghost use Rattle.std.specs.Prelude.{◌≤◌, length};
 ghost use Rattle.state.specs.Holds.{Reached};
 
-use crate::arguments::{last_number, last_pair};
+use crate::call_arguments::{last_number, last_pair};
 use crate::digits::MOST;
 use crate::keeping::{Desk, stopped, with_state};
 use crate::{lending, saying};

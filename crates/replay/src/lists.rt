@@ -2,7 +2,7 @@
 ghost use Rattle.std.specs.Prelude.{◌≡◌, ◌≤◌, length};
 ghost use Rattle.std.specs.Counts.{IsPrefixLen};
 
-use crate::arguments::{number_in, signed_in};
+use crate::call_arguments::{number_in, signed_in};
 use crate::words::{is_word, next_word};
 
 // More numbers than a line can hold, each with a blank before it.

@@ -8,8 +8,8 @@ use keeping::Desk;
 use words::{is_word, next_word};
 
 mod adding;
-mod arguments;
 mod asking;
+mod call_arguments;
 mod deciding;
 mod digits;
 mod keeping;

@@ -1,6 +1,6 @@
--- `compare::arguments::fill` meets its contract.
+-- `compare::random_arguments::fill` meets its contract.
 use Rattle.std.proofs.Common.{◌-◌}
-use Rattle.compare.proofs.arguments.fill.Given as goal
+use Rattle.compare.proofs.random_arguments.fill.Given as goal
 
 abbrev pub invariant-loop-k : goal.invariant-loop-k
 invariant-loop-k l = Unit

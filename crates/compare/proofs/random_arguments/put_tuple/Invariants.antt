@@ -1,6 +1,6 @@
--- `compare::arguments::repeat_first` meets its contract.
+-- `compare::random_arguments::put_tuple` meets its contract.
 use Rattle.std.proofs.Common.{◌-◌}
-use Rattle.compare.proofs.arguments.repeat_first.Given as goal
+use Rattle.compare.proofs.random_arguments.put_tuple.Given as goal
 
 abbrev pub invariant-loop-i : goal.invariant-loop-i
 invariant-loop-i l = Unit

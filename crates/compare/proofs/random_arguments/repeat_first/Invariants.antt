@@ -1,6 +1,6 @@
--- `compare::arguments::scope_of` meets its contract.
+-- `compare::random_arguments::repeat_first` meets its contract.
 use Rattle.std.proofs.Common.{◌-◌}
-use Rattle.compare.proofs.arguments.scope_of.Given as goal
+use Rattle.compare.proofs.random_arguments.repeat_first.Given as goal
 
 abbrev pub invariant-loop-i : goal.invariant-loop-i
 invariant-loop-i l = Unit

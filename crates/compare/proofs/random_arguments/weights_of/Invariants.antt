@@ -1,6 +1,6 @@
--- `compare::arguments::signs_of` meets its contract.
+-- `compare::random_arguments::weights_of` meets its contract.
 use Rattle.std.proofs.Common.{◌-◌}
-use Rattle.compare.proofs.arguments.signs_of.Given as goal
+use Rattle.compare.proofs.random_arguments.weights_of.Given as goal
 
 abbrev pub invariant-loop-i : goal.invariant-loop-i
 invariant-loop-i l = Unit

@@ -1,9 +1,9 @@
--- `compare::arguments::named_of` meets its contract.
+-- `compare::random_arguments::scope_of` meets its contract.
 use Rattle.std.proofs.Common.{◌-◌}
-use Rattle.compare.proofs.arguments.named_of.Given as goal
+use Rattle.compare.proofs.random_arguments.scope_of.Given as goal
 
 abbrev pub invariant-loop-i : goal.invariant-loop-i
 invariant-loop-i l = Unit
 
 abbrev pub decreases-loop-i : goal.decreases-loop-i
-decreases-loop-i l = l.count - l.i
+decreases-loop-i l = l.arity - l.i
