@@ -2,11 +2,11 @@
 use mathlib.Core.Path.{◌≡◌, refl, sym, ap, ◌∙◌}
 use mathlib.Core.Bool.{Bool, true, false}
 use mathlib.Core.List.{List}
-use Prim.Native.Nat.{ℕ, ◌+◌, ◌-◌, ◌<◌}
+use Prim.Native.Nat.{ℕ, ◌+◌, ◌-◌, ◌≤◌, ◌<◌}
 use lib.Dec.{eqb}
 use lib.ListN.{length, get_or, take, drop}
 use Rattle.meaning.specs.Calls.{some, repeats}
-use Rattle.meaning.proofs.Searching.{repeats_steps, found_at, passed_at}
+use Rattle.meaning.proofs.Searching.{repeats_steps, found_at, passed_at, missed_at}
 use Rattle.tuples.proofs.Rows.{rest_is}
 
 module _ (v : List ℕ) (i : ℕ) (inside : i < length v) where
@@ -20,3 +20,7 @@ module _ (v : List ℕ) (i : ℕ) (inside : i < length v) where
   -- it doesn't
   pub once_here : some (eqb (get_or v i 0)) (take (length v - (i + 1)) (drop (i + 1) v)) ≡ false → repeats eqb (drop (i + 1) v) ≡ repeats eqb (drop i v)
   once_here e = passed_at (repeats_steps eqb) v 0 i refl inside (later_is false e)
+
+-- no number is left
+pub none_left : (v : List ℕ) (i : ℕ) → length v ≤ i → repeats eqb (drop i v) ≡ false
+none_left v i h = sym (missed_at (repeats_steps eqb) v 0 i refl h)

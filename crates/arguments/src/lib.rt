@@ -2,8 +2,9 @@
 #![tactic(auto)]
 
 ghost use Rattle.std.specs.Prelude.{◌+◌, ◌≤◌, ◌≡◌, leb, length};
+ghost use Rattle.std.specs.List.{list_any};
 ghost use Rattle.meaning.specs.Limits.{coefficient_limit};
-ghost use Rattle.meaning.specs.Calls.{some, beyond};
+ghost use Rattle.meaning.specs.Calls.{beyond};
 ghost use Rattle.arguments.specs.Checks.{listed_again};
 ghost use Rattle.arguments.specs.Promises.{AnyUnknown, AnyLarge, IsNamed, AnyTwice, TupleTwice, BeyondBound, AnyBeyond};
 
@@ -19,19 +20,13 @@ pub const BOUND: i32 = 5_000_000;
 
 // Whether one of the numbers isn't below the limit.
 fn any_from(numbers: &[u8], limit: usize) -> bool
-    ensures { result ≡ some (leb limit) numbers.now }
+    ensures { result ≡ list_any (leb limit) numbers.now }
 {
-    let mut i = 0;
-    while i < numbers.len() {
-        if limit <= numbers[i] as usize {
-            return true;
-        }
-        i += 1;
-    }
-    false
+    numbers.iter().any(|number| limit <= *number as usize)
 }
 
 // Whether one of the variables isn't among the first `count`.
+#[tactic(auto, using(tuples::proofs::Chains::some_any))]
 pub fn any_unknown(variables: &[u8], count: usize) -> bool
     ensures { AnyUnknown variables.now count result }
 {
@@ -39,6 +34,7 @@ pub fn any_unknown(variables: &[u8], count: usize) -> bool
 }
 
 // Whether one of the values is out of range.
+#[tactic(auto, using(tuples::proofs::Chains::some_any))]
 pub fn any_large(values: &[u8]) -> bool
     ensures { AnyLarge values.now result }
 {
@@ -49,27 +45,18 @@ pub fn any_large(values: &[u8]) -> bool
 pub fn is_named(variables: &[u8], x: usize) -> bool
     ensures { IsNamed variables.now x result }
 {
-    let mut i = 0;
-    while i < variables.len() {
-        if x == variables[i] as usize {
-            return true;
-        }
-        i += 1;
-    }
-    false
+    variables.iter().any(|variable| x == *variable as usize)
 }
 
 // Whether a variable stands twice.
-#[tactic(auto, using(crate::proofs::Twice::twice_here, crate::proofs::Twice::once_here))]
+#[tactic(auto, using(crate::proofs::Twice::twice_here, crate::proofs::Twice::once_here, crate::proofs::Twice::none_left))]
 pub fn any_twice(variables: &[u8]) -> bool
     ensures { AnyTwice variables.now result }
 {
-    let mut i = 0;
-    while i < variables.len() {
-        if is_named(&variables[i + 1..], variables[i] as usize) {
+    for (i, variable) in variables.iter().enumerate() {
+        if is_named(&variables[i + 1..], *variable as usize) {
             return true;
         }
-        i += 1;
     }
     false
 }
@@ -93,9 +80,8 @@ pub fn tuple_twice(cells: &[u8], arity: usize) -> bool
         return false;
     }
     let mut marked = [false; KEYS];
-    let mut place = cells.len() - cells.len() % arity;
-    while 0 < place {
-        place -= arity;
+    for i in (0..cells.len() / arity).rev() {
+        let place = i * arity;
         let key = key_of(&cells[place..place + arity]);
         if marked[key] && listed_again(cells, place, arity) {
             return true;
@@ -123,12 +109,7 @@ fn beyond_coefficient(coefficient: i32) -> bool
 pub fn any_beyond(coefficients: &[i32]) -> bool
     ensures { AnyBeyond coefficients.now result }
 {
-    let mut i = 0;
-    while i < coefficients.len() {
-        if beyond_coefficient(coefficients[i]) {
-            return true;
-        }
-        i += 1;
-    }
-    false
+    coefficients
+        .iter()
+        .any(|coefficient| beyond_coefficient(*coefficient))
 }

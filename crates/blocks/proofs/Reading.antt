@@ -1,15 +1,16 @@
--- Blocks place by place, and what the loop that reads one has read. Assumes nothing.
-use mathlib.Core.Path.{◌≡◌, sym, ap, ◌∙◌}
+-- Blocks place by place, and what reading one gives. Assumes nothing.
+use mathlib.Core.Path.{◌≡◌, refl, sym, ap, ◌∙◌}
 use mathlib.Core.Logic.{◌⊎◌, inl, inr, ⊎_elim, by_cases}
 use mathlib.Core.Bool.{Bool, cond}
 use mathlib.Core.List.{List}
 use Prim.Native.Nat.{ℕ, ◌+◌, ◌*◌, ◌≤◌, ◌<◌}
-use native.Mathlib.Decide.{ℕ_discrete, dec_lt}
+use native.Mathlib.Decide.{dec_lt}
 use native.Mathlib.Omega.{arith}
 use borrow.Author.Tests.{le-leb, lt-leb}
-use lib.ListN.{length, get_or, set, drop, length-take, length-drop, length-set, get_or-eq_default}
-use lib.Seq.{ext_get_or, get_or-take, get_or-drop, get_or-set_same, get_or-set_other, length-take-le}
+use lib.ListN.{length, get_or, drop, length-take, length-drop, get_or-eq_default, replicate}
+use lib.Seq.{ext_get_or, get_or-take, get_or-drop, length-take-le}
 use Rattle.meaning.specs.Limits.{variable_limit, decision_limit}
+use Rattle.blocks.proofs.Copying.{zeros_at}
 use Rattle.blocks.specs.Blocks.{block, block_places, list_after, Copied}
 
 pub block_at : (l : List ℕ) (k n x : ℕ) → x < n → get_or (block l k n) x 0 ≡ get_or l (variable_limit * k + x) 0
@@ -36,29 +37,9 @@ module _ (l : List ℕ) (k x : ℕ) where
   pub nowhere : (decision_limit < k) ⊎ ((k ≤ decision_limit) × (variable_limit ≤ x)) → 0 ≡ list_after l k x
   nowhere past = no_place (⊎_elim (λ deep. inr deep) (λ wide. inl wide.1) past)
 
--- the first x lists are read
-pub record Read (l : List ℕ) (k : ℕ) (out : List ℕ) (x : ℕ) : Type 0 where
-  pub long : length out ≡ variable_limit
-  pub few : x ≤ variable_limit
-  pub each : (y : ℕ) → y < x → get_or out y 0 ≡ list_after l k y
-
-module _ (l : List ℕ) (k : ℕ) (out : List ℕ) (x : ℕ) (read : Read l k out x) where
-  pub read_more : (v : ℕ) → v ≡ list_after l k x → x < variable_limit → Read l k (set out x v) (x + 1)
-  read_more v e h = record {
-    long = length-set out x v ∙ read.long;
-    few = omega arith;
-    each = λ y i.
-        by_cases (ℕ_discrete y x) (λ here. rw here (get_or-set_same out x v 0 (omega (arith, read.long)) ∙ e))
-        (λ other. get_or-set_other out x y v 0 other ∙ read.each y (omega arith));
-  }
-
-  pub read_all : variable_limit ≤ x → Copied l k out
-  read_all h = record {
-    long = read.long;
-    each = λ y.
-        by_cases (dec_lt y variable_limit) (λ i. read.each y (omega arith))
-        (λ i. get_or-eq_default out 0 {n = y} (omega (arith, read.long)) ∙ no_place l k y (inl (omega arith)));
-  }
+-- no list is read where there is no such block
+pub none_read : (l : List ℕ) (k : ℕ) → decision_limit < k → Copied l k (replicate variable_limit 0)
+none_read l k h = record { long = refl; each = λ x. zeros_at variable_limit x ∙ sym (past_all l k x h) }
 
 pub copied_is : {l : List ℕ} {k : ℕ} {r : List ℕ} → length l ≡ block_places → k ≤ decision_limit → Copied l k r → r ≡ block l k variable_limit
 copied_is {l} {k} {r} long few c = ext_get_or 0 r (block l k variable_limit) (c.long ∙ sym (block_length l k variable_limit long few (omega arith))) (λ x i. c.each x ∙ in_a_block l k x few)

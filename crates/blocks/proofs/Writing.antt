@@ -7,34 +7,31 @@ use Prim.Native.Nat.{ℕ, zero, suc, ◌+◌, ◌-◌, ◌*◌, ◌≤◌, ◌<�
 use native.Mathlib.Nat.{add-zero}
 use native.Mathlib.Decide.{dec_lt}
 use native.Mathlib.Omega.{arith}
-use borrow.Author.Tests.{le-leb, lt-leb}
-use lib.ListN.{length, get_or, set, take, replicate, length-set, length-replicate}
-use lib.Seq.{sets, length-sets, ext_get_or, get_or-take, get_or-set_same, get_or-set_other, length-take-le, take_all}
+use borrow.Author.Tests.{le-leb}
+use lib.ListN.{length, get_or, set, take, drop, replicate, length-set, length-drop, length-replicate}
+use lib.Seq.{sets, length-sets, ext_get_or, get_or-take, get_or-set_same, get_or-set_other, length-take-le}
 use Rattle.meaning.specs.Limits.{variable_limit, decision_limit}
 use Rattle.blocks.specs.Blocks.{block, block_places, with_block, zeroed_from}
+use borrow.Rule.Slice.PartMut.{put_mid, mid_of}
+use Rattle.blocks.proofs.Copying.{put_part}
 use Rattle.blocks.proofs.Reading.{block_at, block_length}
 
 module _ (l : List ℕ) (k : ℕ) (left : List ℕ) where
-  pub no_block : decision_limit < k → l ≡ with_block l k left
-  no_block h = sym (ap (λ (b : Bool). cond b (sets l (variable_limit * k) left) l) (lt-leb k decision_limit h))
-
   pub with_block_lem : k ≤ decision_limit → with_block l k left ≡ sets l (variable_limit * k) left
   with_block_lem h = ap (λ (b : Bool). cond b (sets l (variable_limit * k) left) l) (le-leb k decision_limit h)
 
-  -- all of it is written
-  pub in_block : {m : List ℕ} → k ≤ decision_limit → length left ≡ variable_limit → m ≡ sets l (variable_limit * k) (take variable_limit left) → m ≡ with_block l k left
-  in_block h long e = e ∙ ap (sets l (variable_limit * k)) (take_all variable_limit left (omega arith)) ∙ sym (with_block_lem h)
+  -- all of it is written, as the code writes it
+  pub in_block : {m : List ℕ} {n : ℕ} → k ≤ decision_limit → length l ≡ block_places → n ≡ variable_limit → m ≡ left → length left ≡ variable_limit → put_mid (variable_limit * k) n l m ≡ with_block l k left
+  in_block {m} {n} h long e f size =
+      ap (put_mid (variable_limit * k) n l) f ∙ put_part l left (variable_limit * k) n (omega arith) (omega arith) ∙ sym (with_block_lem h)
 
-pub nothing_after : (l : List ℕ) (k : ℕ) → decision_limit < k → l ≡ zeroed_from l (variable_limit * k + variable_limit)
-nothing_after l k h =
-    let none : block_places - (variable_limit * k + variable_limit) ≡ 0 = omega arith in
-    rw none refl
-
--- all after it is emptied
-pub emptied : (l : List ℕ) (from : ℕ) {m : List ℕ} → m ≡ sets l from (take (block_places - from) (replicate (block_places - from) 0)) → m ≡ zeroed_from l from
-emptied l from e =
-    let zeros = replicate {A = ℕ} (block_places - from) 0 in
-    e ∙ ap (sets l from) (take_all (block_places - from) zeros (omega (arith, length-replicate {A = ℕ} (block_places - from) 0)))
+-- all after it is emptied, as the code empties it
+pub emptied : (l : List ℕ) (from : ℕ) {m : List ℕ} → from ≤ block_places → length l ≡ block_places → m ≡ replicate (length (mid_of from (block_places - from) l)) 0
+    → put_mid from (block_places - from) l m ≡ zeroed_from l from
+emptied l from h long e =
+    let size : length (mid_of from (block_places - from) l) ≡ block_places - from = length-take-le (block_places - from) (drop from l) (omega (arith, length-drop from l)) in
+    ap (put_mid from (block_places - from) l) (e ∙ ap (λ (n : ℕ). replicate n 0) size)
+    ∙ put_part l (replicate (block_places - from) 0) from (block_places - from) (sym (length-replicate {A = ℕ} (block_places - from) 0)) (omega arith)
 
 -- ---- reading what was written
 

@@ -4,55 +4,52 @@
 ghost use Rattle.blocks.specs.Keeping.{KeptIn};
 ghost use Rattle.blocks.specs.Blocks.{ListOf, Copied, PutLists, ClearedAfter};
 
+use meaning::{DECISIONS, VARIABLES};
+
+// How many lists there are.
+pub const PLACES: usize = VARIABLES * (DECISIONS + 1);
+
 // The list of the variable x after k decisions; 0 where there is no such place.
-pub fn list_of(lists: &[u64; 1056], k: usize, x: usize) -> u64
+#[tactic(auto, using(crate::proofs::Reading::place_is))]
+pub fn list_of(lists: &[u64; PLACES], k: usize, x: usize) -> u64
     ensures { ListOf lists.now k x result }
 {
-    if 32 < k || 32 <= x {
+    if DECISIONS < k || VARIABLES <= x {
         return 0;
     }
-    lists[32 * k + x]
+    lists[VARIABLES * k + x]
 }
 
 // The lists after k decisions.
-pub fn lists_after(lists: &[u64; 1056], k: usize) -> [u64; 32]
+pub fn lists_after(lists: &[u64; PLACES], k: usize) -> [u64; VARIABLES]
     ensures { Copied lists.now k result }
 {
-    let mut out = [0u64; 32];
-    let mut x = 0;
-    while x < 32 {
-        out[x] = list_of(lists, k, x);
-        x += 1;
+    let mut out = [0; VARIABLES];
+    if k <= DECISIONS {
+        let at = VARIABLES * k;
+        out.copy_from_slice(&lists[at..at + VARIABLES]);
     }
     out
 }
 
 // Makes `left` the lists after k decisions, where there is such a block.
-pub fn put_lists(lists: &mut [u64; 1056], k: usize, left: [u64; 32])
+#[tactic(auto, using(crate::proofs::Writing::in_block))]
+pub fn put_lists(lists: &mut [u64; PLACES], k: usize, left: [u64; VARIABLES])
     ensures { PutLists lists.old k left lists.new }
 {
-    if 32 < k {
-        return;
-    }
-    let at = 32 * k;
-    let mut x = 0;
-    while x < 32 {
-        lists[at + x] = left[x];
-        x += 1;
+    if k <= DECISIONS {
+        let at = VARIABLES * k;
+        lists[at..at + VARIABLES].copy_from_slice(&left);
     }
 }
 
 // Empties the lists of every depth above k.
-pub fn clear_after(lists: &mut [u64; 1056], k: usize)
+#[tactic(auto, using(crate::proofs::Writing::emptied))]
+pub fn clear_after(lists: &mut [u64; PLACES], k: usize)
     ensures { ClearedAfter lists.old k lists.new }
 {
-    if 32 < k {
-        return;
-    }
-    let mut i = 32 * k + 32;
-    while i < 1056 {
-        lists[i] = 0;
-        i += 1;
+    if k <= DECISIONS {
+        lists[VARIABLES * k + VARIABLES..].fill(0);
     }
 }
 
@@ -61,7 +58,7 @@ pub fn clear_after(lists: &mut [u64; 1056], k: usize)
 pub fn keep(lists: &mut [u64], x: usize, mask: u64) -> u64
     ensures { KeptIn lists.old x mask lists.new result }
 {
-    if lists.len() != 32 || 32 <= x {
+    if lists.len() != VARIABLES || VARIABLES <= x {
         return 0;
     }
     let old = lists[x];

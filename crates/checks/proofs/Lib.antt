@@ -1,3 +1,2 @@
--- The laws of the tests, for the proofs of this crate and of the crates that use it.
-pub mod Testing
+-- The laws of the tests.
 pub mod Unique

@@ -3,14 +3,16 @@ use mathlib.Core.Path.{◌≡◌, sym, ◌∙◌}
 use mathlib.Core.List.{List}
 use Prim.Native.Nat.{ℕ}
 use lib.IntN.{ℤ}
-use Rattle.refusals.specs.declared.Answer.{Answer}
+use Rattle.std.specs.Prelude.{Result}
+use Rattle.refusals.specs.declared.Refusal.{Refusal}
 use Rattle.refusals.proofs.Unique.{answer_unique}
+use Rattle.checks.specs.declared.Counts.{Counts}
 use Rattle.checks.specs.Tests.{TestsTable, TestsLinear}
 
-module _ (variables depth rules used : ℕ) (scope : List ℕ) (a b : Answer) where
-  pub table_tested_unique : (cells : List ℕ) → TestsTable variables depth rules used scope cells a → TestsTable variables depth rules used scope cells b → a ≡ b
+module _ (counts : Counts) (scope : List ℕ) (a b : Result Unit Refusal) where
+  pub table_tested_unique : (cells : List ℕ) → TestsTable counts scope cells a → TestsTable counts scope cells b → a ≡ b
   table_tested_unique cells h k = answer_unique a b (h ∙ sym k)
 
-  pub linear_tested_unique : (coefficients : List ℤ) (bound : ℤ) → TestsLinear variables depth rules used scope coefficients bound a
-      → TestsLinear variables depth rules used scope coefficients bound b → a ≡ b
+  pub linear_tested_unique : (coefficients : List ℤ) (bound : ℤ) → TestsLinear counts scope coefficients bound a
+      → TestsLinear counts scope coefficients bound b → a ≡ b
   linear_tested_unique coefficients bound h k = answer_unique a b (h ∙ sym k)

@@ -1,89 +1,90 @@
 // What the additions of rules are refused for, in document 01's order.
 #![tactic(auto)]
 
-ghost use Rattle.std.specs.Prelude.{◌≡◌, ◌||◌, ◌+◌, leb, ltb};
-ghost use Rattle.meaning.specs.Limits.{rule_limit, room_limit};
-ghost use Rattle.checks.specs.Tests.{TestsTable, TestsLinear};
+ghost use Rattle.std.specs.Prelude.{◌≡◌};
+ghost use Rattle.checks.specs.Tests.{TestsTable, TestsLinear, overfull};
 
 use arguments::{any_beyond, any_large, any_twice, any_unknown, beyond_bound, tuple_twice};
-use refusals::{Answer, Refusal};
+use meaning::{ROOM, RULES, VARIABLES};
+use refusals::Refusal;
 
-// A table, tested where so many variables, decisions and rules stand and so much of the room is used.
-pub fn table_tested(
-    variables: usize,
-    depth: usize,
-    rules: usize,
-    used: usize,
-    scope: &[u8],
-    cells: &[u8],
-) -> Answer
-    ensures { TestsTable variables depth rules used scope.now cells.now result }
+// The most variables of a table; a linear rule may have all of them.
+const ARITY: usize = 8;
+
+// How much stands: so many variables, decisions and rules, and so many numbers in the room.
+#[derive(Clone, Copy)]
+pub struct Counts {
+    pub variables: usize,
+    pub depth: usize,
+    pub rules: usize,
+    pub used: usize,
+}
+
+// A table, tested where so much stands.
+#[tactic(auto, unfolding(meaning::specs::Refusals::first))]
+pub fn table_tested(counts: Counts, scope: &[u8], cells: &[u8]) -> Result<(), Refusal>
+    ensures { TestsTable counts scope.now cells.now result }
 {
     let arity = scope.len();
-    if 0 < depth {
-        return Answer::Refused(Refusal::Decided);
+    if 0 < counts.depth {
+        return Err(Refusal::Decided);
     }
-    if arity == 0 || 8 < arity || cells.len() % arity != 0 {
-        return Answer::Refused(Refusal::WrongLength);
+    if arity == 0 || ARITY < arity || cells.len() % arity != 0 {
+        return Err(Refusal::WrongLength);
     }
-    if any_unknown(scope, variables) {
-        return Answer::Refused(Refusal::NoSuchVariable);
+    if any_unknown(scope, counts.variables) {
+        return Err(Refusal::NoSuchVariable);
     }
     if any_twice(scope) {
-        return Answer::Refused(Refusal::VariableTwice);
+        return Err(Refusal::VariableTwice);
     }
     if any_large(cells) {
-        return Answer::Refused(Refusal::OutOfRange);
+        return Err(Refusal::OutOfRange);
     }
     if tuple_twice(cells, arity) {
-        return Answer::Refused(Refusal::TupleTwice);
+        return Err(Refusal::TupleTwice);
     }
-    if is_full(rules, used, arity, cells.len()) {
-        return Answer::Refused(Refusal::Full);
+    if is_full(counts, arity + cells.len()) {
+        return Err(Refusal::Full);
     }
-    Answer::Accepted
+    Ok(())
 }
 
 // The same for a linear rule.
+#[tactic(auto, unfolding(meaning::specs::Refusals::first))]
 pub fn linear_tested(
-    variables: usize,
-    depth: usize,
-    rules: usize,
-    used: usize,
+    counts: Counts,
     scope: &[u8],
     coefficients: &[i32],
     bound: i32,
-) -> Answer
-    ensures { TestsLinear variables depth rules used scope.now coefficients.now bound result }
+) -> Result<(), Refusal>
+    ensures { TestsLinear counts scope.now coefficients.now bound result }
 {
     let arity = scope.len();
-    if 0 < depth {
-        return Answer::Refused(Refusal::Decided);
+    if 0 < counts.depth {
+        return Err(Refusal::Decided);
     }
-    if arity == 0 || 32 < arity || coefficients.len() != arity {
-        return Answer::Refused(Refusal::WrongLength);
+    if arity == 0 || VARIABLES < arity || coefficients.len() != arity {
+        return Err(Refusal::WrongLength);
     }
-    if any_unknown(scope, variables) {
-        return Answer::Refused(Refusal::NoSuchVariable);
+    if any_unknown(scope, counts.variables) {
+        return Err(Refusal::NoSuchVariable);
     }
     if any_twice(scope) {
-        return Answer::Refused(Refusal::VariableTwice);
+        return Err(Refusal::VariableTwice);
     }
     if any_beyond(coefficients) || beyond_bound(bound) {
-        return Answer::Refused(Refusal::OutOfRange);
+        return Err(Refusal::OutOfRange);
     }
-    if is_full(rules, used, arity, arity + 1) {
-        return Answer::Refused(Refusal::Full);
+    if is_full(counts, 2 * arity + 1) {
+        return Err(Refusal::Full);
     }
-    Answer::Accepted
+    Ok(())
 }
 
 // Whether no rule more is held, or not with so many numbers more.
-fn is_full(rules: usize, used: usize, some: usize, more: usize) -> bool
-    ensures { result ≡ (leb rule_limit rules || ltb room_limit (used + (some + more))) }
+fn is_full(counts: Counts, numbers: usize) -> bool
+    ensures { result ≡ overfull counts numbers }
 {
-    if 48 <= rules || 4096 < used || 4096 - used < some {
-        return true;
-    }
-    4096 - used - some < more
+    RULES <= counts.rules || ROOM < counts.used || ROOM - counts.used < numbers
 }

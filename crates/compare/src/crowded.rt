@@ -1,252 +1,174 @@
 // Networks at the limits: 32 variables, 48 rules, 4,096 numbers, 32 decisions, and one more of each.
-use crate::calls::{ALLOW, BAN, Call, FORBID, LINEAR, OBJECTIVES, PIN, TAKE_BACK, VARIABLE, blank};
-use crate::places::{LONG, SHORT, from, only, plus, put_byte, put_cell, sum, word_at};
-use crate::random::{chance, index, narrow, pick, seed_of, small, wide};
+use crate::calls::{Call, Decision, Linear, Scope, Sort, Table, Way};
+use crate::lists::{LONG, List, at, from, only};
+use crate::networks::Scene;
+use crate::random::Seed;
 use crate::random_arguments::objectives_call;
 
 // The calls of a crowded network.
-pub(crate) const CALLS: usize = 76;
+pub(crate) const CALLS: u8 = 76;
 
-const EVERY: u64 = 0xffff_ffff_ffff_ffff;
-
-// The call of a step; the network crowds variables and decisions, rules, room, or bans.
-pub(crate) fn crowded_call(
-    network: u64,
-    way: u8,
-    step: usize,
-    n: usize,
-    depth: usize,
-    lists: [u64; SHORT],
-) -> Call {
-    if way == 0 {
-        return many_variables(network, step, depth, lists);
-    }
-    if way == 1 {
-        return many_rules(network, step, n, lists);
-    }
-    if way == 2 {
-        return full_room(network, step, lists);
-    }
-    many_bans(step, depth, lists)
+// What a network crowds.
+pub(crate) enum Crowd {
+    Variables,
+    Rules,
+    Room,
+    Bans,
 }
 
-fn variable_call(marks: u64) -> Call {
-    let mut call = blank(VARIABLE);
-    call.marks = marks;
-    call
-}
-
-fn take_back_call(depth: usize) -> Call {
-    let mut call = blank(TAKE_BACK);
-    call.depth = depth;
-    call
+// The call of a step.
+pub(crate) fn crowded_call(network: Seed, crowd: Crowd, step: u8, scene: &Scene) -> Call {
+    match crowd {
+        Crowd::Variables => many_variables(network, step, scene),
+        Crowd::Rules => many_rules(network, step, scene),
+        Crowd::Room => full_room(network, step, scene),
+        Crowd::Bans => many_bans(step, scene),
+    }
 }
 
 // A decision on the lowest value left.
-fn lowest_call(kind: u8, x: u8, lists: [u64; SHORT]) -> Call {
-    let mut call = blank(kind);
-    call.variable = x;
-    call.value = from(word_at(&lists, index(x)), 0);
-    call
+fn lowest_call(way: Way, variable: u8, scene: &Scene) -> Call {
+    let value = from(at(scene.lists.as_slice(), variable), 0);
+    Call::Decide(Decision {
+        way,
+        variable,
+        value,
+    })
 }
 
-// A decision on a value that is not left, or out of range.
-fn removed_call(kind: u8, way: usize, lists: [u64; SHORT]) -> Call {
-    let mut call = lowest_call(kind, 0, lists);
-    if way == 0 {
-        call.value = 64;
-        return call;
-    }
-    call.value = 63 - from(word_at(&lists, 0), 0) % 64;
-    call
+fn pin_call(variable: u8, scene: &Scene) -> Call {
+    lowest_call(Way::Pin, variable, scene)
+}
+
+fn ban_call(variable: u8, scene: &Scene) -> Call {
+    lowest_call(Way::Ban, variable, scene)
+}
+
+// A ban of a value that is not left to the first variable.
+fn removed_call(scene: &Scene) -> Call {
+    let lowest = from(at(scene.lists.as_slice(), 0), 0);
+    banned_first(63 - lowest % 64)
+}
+
+fn banned_first(value: u8) -> Call {
+    Call::Decide(Decision {
+        way: Way::Ban,
+        variable: 0,
+        value,
+    })
 }
 
 // The first variables, each with the same coefficient.
-fn even_call(terms: usize, weight: u64, bound: u64) -> Call {
-    let mut call = blank(LINEAR);
-    let scope = first_variables();
-    call.scope = scope;
-    call.weights = [weight; SHORT];
-    call.arity = terms;
-    call.terms = terms;
-    call.bound = bound;
-    call
+fn even_call(terms: u8, coefficient: i32, bound: i32) -> Call {
+    let mut coefficients = List::new(0);
+    for _ in 0..terms {
+        coefficients.push(coefficient);
+    }
+    Call::Linear(Linear {
+        scope: first_variables(terms),
+        coefficients,
+        bound,
+    })
 }
 
-fn first_variables() -> [u8; SHORT] {
-    let mut scope = [0u8; SHORT];
-    let mut i: u8 = 0;
-    while i < 32 {
-        put_byte(&mut scope, index(i), i);
-        i += 1;
+fn first_variables(count: u8) -> Scope {
+    let mut scope = List::new(0);
+    for x in 0..count {
+        scope.push(x);
     }
     scope
 }
 
-fn first_objectives() -> Call {
-    let mut call = blank(OBJECTIVES);
-    let scope = first_variables();
-    call.scope = scope;
-    call.arity = 16;
-    call
+fn first_objectives(count: u8) -> Call {
+    Call::Objectives(first_variables(count))
 }
 
 // 33 variables of one value, a rule on 32 of them, 33 pins, one pin more after a take-back, and the rule once more.
-fn many_variables(network: u64, step: usize, depth: usize, lists: [u64; SHORT]) -> Call {
-    if step < 33 {
-        return variable_call(only(pick(network, wide(small(step)), 64)));
+fn many_variables(network: Seed, step: u8, scene: &Scene) -> Call {
+    match step {
+        0..=32 => Call::Variable(only(network.pick(u64::from(step), 64))),
+        33 => even_call(32, 1000, 800_000 + 2000 * i32::from(network.pick(40, 255))),
+        34 => first_objectives(16),
+        35..=67 => pin_call(step % 32, scene),
+        68 => Call::TakeBack(31),
+        69 | 70 => pin_call(0, scene),
+        71 => Call::TakeBack(usize::from(scene.decisions)),
+        72 => banned_first(64),
+        73 => removed_call(scene),
+        74 => Call::TakeBack(0),
+        _ => even_call(32, 2, 2048),
     }
-    if step == 33 {
-        return even_call(32, 1000, 800_000 + 2000 * wide(pick(network, 40, 255)));
-    }
-    if step == 34 {
-        return first_objectives();
-    }
-    if step < 68 {
-        return lowest_call(PIN, small(step) % 32, lists);
-    }
-    if step == 68 {
-        return take_back_call(31);
-    }
-    if step < 71 {
-        return lowest_call(PIN, 0, lists);
-    }
-    if step == 71 {
-        return take_back_call(depth);
-    }
-    if step < 74 {
-        return removed_call(BAN, step % 2, lists);
-    }
-    if step == 74 {
-        return take_back_call(0);
-    }
-    even_call(32, 2, 2048)
 }
 
 // Three variables, 49 rules that leave much, and objectives.
-fn many_rules(network: u64, step: usize, n: usize, lists: [u64; SHORT]) -> Call {
-    if step < 3 {
-        return variable_call(0x8000_0000_0000_023f);
-    }
-    if step < 52 {
-        return even_call(
-            plus(1, step % 3),
-            1 + wide(pick(network, wide(small(step)), 3)),
+fn many_rules(network: Seed, step: u8, scene: &Scene) -> Call {
+    match step {
+        0..=2 => Call::Variable(0x8000_0000_0000_023f),
+        3..=51 => even_call(
+            1 + step % 3,
+            1 + i32::from(network.pick(u64::from(step), 3)),
             200,
-        );
+        ),
+        52 => even_call(1, 1001, 200),
+        53 => first_objectives(16),
+        54..=59 => objectives_call(network.part(500 + u64::from(step)), scene.variables),
+        _ => ban_call(step % 3, scene),
     }
-    if step == 52 {
-        return even_call(1, 1001, 200);
-    }
-    if step == 53 {
-        return first_objectives();
-    }
-    if step < 60 {
-        return objectives_call(seed_at(network, step), small(n));
-    }
-    lowest_call(BAN, small(step) % 3, lists)
-}
-
-fn seed_at(network: u64, step: usize) -> u64 {
-    seed_of(network, 500 + wide(small(step)))
 }
 
 // Eight variables of two values, a table that takes nearly all room, and rules of three numbers until none is left.
-fn full_room(network: u64, step: usize, lists: [u64; SHORT]) -> Call {
-    if step < 8 {
-        return variable_call(3);
+fn full_room(network: Seed, step: u8, scene: &Scene) -> Call {
+    match step {
+        0..=7 => Call::Variable(3),
+        8 => large_table(network, 512),
+        9 => large_table(network, 513),
+        10 => large_table(network, 509 + u16::from(network.pick(41, 3))),
+        11..=19 => even_call(1, 1, 3),
+        20 => first_objectives(8),
+        21..=59 => pin_call(step % 8, scene),
+        _ => Call::TakeBack(usize::from(step % 8)),
     }
-    if step == 8 {
-        return large_table(network, 512);
-    }
-    if step == 9 {
-        return large_table(network, 513);
-    }
-    if step == 10 {
-        return large_table(network, 509 + wide(pick(network, 41, 3)));
-    }
-    if step < 20 {
-        return even_call(1, 1, 3);
-    }
-    if step == 20 {
-        return first_half();
-    }
-    if step < 60 {
-        return lowest_call(PIN, small(step) % 8, lists);
-    }
-    take_back_call(step % 8)
-}
-
-fn first_half() -> Call {
-    let mut call = first_objectives();
-    call.arity = 8;
-    call
 }
 
 // A table of so many tuples on eight variables.
-fn large_table(network: u64, tuples: u64) -> Call {
-    let mut call = blank(ALLOW);
-    if chance(network, 42, 2) {
-        call = blank(FORBID);
+fn large_table(network: Seed, tuples: u16) -> Call {
+    let mut cells = List::new(0);
+    let first = u16::from(network.pick(43, 255));
+    for i in 0..tuples {
+        push_code(&mut cells, first.wrapping_add(i) % 512);
     }
-    let scope = first_variables();
-    call.scope = scope;
-    call.arity = 8;
-    call.length = fill_codes(&mut call.cells, wide(pick(network, 43, 255)), tuples);
-    call
-}
-
-fn fill_codes(cells: &mut [u8; LONG], first: u64, tuples: u64) -> usize {
-    let mut end = 0;
-    let mut i: u64 = 0;
-    while i < tuples {
-        put_code(cells, end, sum(first, i) % 512);
-        end = plus(end, 8);
-        i += 1;
-    }
-    end
+    let sort = if network.chance(42, 2) {
+        Sort::Forbid
+    } else {
+        Sort::Allow
+    };
+    Call::Table(Table {
+        sort,
+        scope: first_variables(8),
+        cells,
+    })
 }
 
 // A tuple of zeros and ones; its last value is 2 or 3 for the codes from 256 on.
-fn put_code(cells: &mut [u8; LONG], start: usize, code: u64) {
-    let mut rest = code;
-    let mut i = 0;
-    while i < 7 {
-        put_cell(cells, plus(start, i), narrow(rest % 2));
-        rest = rest / 2;
-        i += 1;
+fn push_code(cells: &mut List<u8, LONG>, code: u16) {
+    for place in 0..7u16 {
+        cells.push(u8::from(code >> place & 1 == 1));
     }
-    put_cell(cells, plus(start, 7), narrow(rest));
+    cells.push((code % 512 / 128) as u8);
 }
 
 // Two variables, a rule on both, 33 bans, one ban more after a take-back, and so on.
-fn many_bans(step: usize, depth: usize, lists: [u64; SHORT]) -> Call {
-    if step == 0 {
-        return variable_call(EVERY);
+fn many_bans(step: u8, scene: &Scene) -> Call {
+    match step {
+        0 => Call::Variable(u64::MAX),
+        1 => Call::Variable(0x0000_0fff_0000_00ff),
+        2 => even_call(2, 1, 80),
+        3 => objectives_call(Seed(7), 2),
+        4..=36 => ban_call(step % 2, scene),
+        37 => Call::TakeBack(31),
+        38..=40 => ban_call(0, scene),
+        41 => Call::Variable(1),
+        42..=44 => Call::TakeBack(usize::from(scene.decisions / 2)),
+        _ => ban_call(1, scene),
     }
-    if step == 1 {
-        return variable_call(0x0000_0fff_0000_00ff);
-    }
-    if step == 2 {
-        return even_call(2, 1, 80);
-    }
-    if step == 3 {
-        return objectives_call(7, 2);
-    }
-    if step < 37 {
-        return lowest_call(BAN, small(step) % 2, lists);
-    }
-    if step == 37 {
-        return take_back_call(31);
-    }
-    if step < 41 {
-        return lowest_call(BAN, 0, lists);
-    }
-    if step == 41 {
-        return variable_call(1);
-    }
-    if step < 45 {
-        return take_back_call(depth / 2);
-    }
-    lowest_call(BAN, 1, lists)
 }

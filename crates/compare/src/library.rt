@@ -1,236 +1,103 @@
-// The calls on the library's state, with document 01's numbers for its answers.
-ghost use Rattle.std.specs.Prelude.{◌≤◌};
+// The calls on the library's state, with document 01's numbers for its refusals.
 ghost use Rattle.state.specs.Holds.{Reached};
 
-use crate::calls::{ALLOW, BAN, Call, FORBID, INCONSISTENT, LINEAR, OBJECTIVES, PIN, VARIABLE};
-use crate::places::{LONG, SHORT, byte_at, word_at};
-use decide::{DecisionAnswer, Left};
+use crate::calls::{Call, Decision, Linear, Number, Outcome, Sort, Table, Way};
 use leximin::Solved;
-use refusals::{Answer, number_of};
-use state::{Sort, State};
+use refusals::Refusal;
+use state::{AfterCall, State};
+use std::marker::Model;
 
-#[derive(Clone, Copy)]
-pub(crate) struct Told {
-    pub number: u8,
-    pub values: u64,
+// A state that calls on a new one have left, so that it may be lent to any other.
+#[derive(Drop)]
+pub(crate) struct Library {
+    state: State,
 }
 
-// What solving answers, and the buffer after it.
-#[derive(Clone, Copy)]
-pub(crate) struct Written {
-    pub number: u8,
-    pub buffer: [u8; SHORT],
+impl Model for Library {
+    ghost use Rattle.state.specs.declared.State.{State};
+    ghost use Rattle.state.specs.Holds.{Reached};
+
+    ghost Value = { State };
+
+    ghost view = { λ l. l.state };
+
+    ghost invariant = { λ l. Reached l.state };
 }
 
-#[derive(Clone, Copy)]
-pub(crate) struct After {
-    pub number: u8,
-    pub state: State,
-}
-
-fn answered(answer: Answer) -> u8 {
-    match answer {
-        Answer::Accepted => 0,
-        Answer::Refused(r) => number_of(r),
+impl From<Refusal> for Number {
+    fn from(refusal: Refusal) -> Number {
+        Number(u8::from(refusal))
     }
 }
 
-fn decision_answered(answer: DecisionAnswer) -> u8 {
-    match answer {
-        DecisionAnswer::Accepted => 0,
-        DecisionAnswer::Refused(r) => number_of(r),
+impl Library {
+    #[tactic(auto, using(state::proofs::Runs::reached_new))]
+    pub(crate) fn new() -> Self {
+        Library {
+            state: setup::new(),
+        }
     }
-}
 
-fn solving_answered(answer: Solved) -> u8 {
-    match answer {
-        Solved::Found => 0,
-        Solved::Inconsistent => INCONSISTENT,
-        Solved::Refused(r) => number_of(r),
+    // The answer to a question for the values left.
+    pub(crate) fn left_to(&self, x: u8) -> Result<u64, Number> {
+        Ok(decide::values_left(self.state, x)?)
     }
-}
 
-// The library's answer to a question for the values left.
-pub(crate) fn left_to(s: State, x: u8) -> Told
-    requires { Reached s }
-{
-    let answer = decide::values_left(s, x);
-    match answer {
-        Left::Values(values) => Told { number: 0, values },
-        Left::Refused(r) => Told {
-            number: number_of(r),
-            values: 0,
-        },
+    // Solves into the buffer's first places.
+    pub(crate) fn solved(&self, buffer: &mut [u8]) -> Result<Outcome, Number> {
+        match leximin::solve(self.state, buffer)? {
+            Solved::Found => Ok(Outcome::Found),
+            Solved::Inconsistent => Ok(Outcome::Inconsistent),
+        }
     }
-}
 
-pub(crate) fn variable_added(s: State, marks: u64) -> After
-    requires { Reached s }
-    ensures { Reached result.state }
-{
-    let after = setup::add_variable(s, marks);
-    let answer = after.answer;
-    let state = after.state;
-    After {
-        number: answered(answer),
-        state,
+    #[tactic(auto, using(state::proofs::Runs::reached_after))]
+    pub(crate) fn called(&mut self, call: &Call) -> Result<(), Number> {
+        match call {
+            Call::Variable(marks) => self.keep(setup::add_variable(self.state, *marks)),
+            Call::Table(table) => self.add_table(table),
+            Call::Linear(rule) => self.add_linear(rule),
+            Call::Objectives(named) => {
+                self.keep(setup::name_objectives(self.state, named.as_slice()))
+            }
+            Call::Decide(decision) => self.decide(*decision),
+            Call::TakeBack(depth) => self.keep(decide::take_back(self.state, *depth)),
+        }
     }
-}
 
-fn sort_of(kind: u8) -> Sort {
-    if kind == ALLOW {
-        return Sort::Allow;
+    #[tactic(auto, using(state::proofs::Runs::reached_after))]
+    fn add_table(&mut self, table: &Table) -> Result<(), Number> {
+        let sort = match table.sort {
+            Sort::Allow => state::Sort::Allow,
+            Sort::Forbid => state::Sort::Forbid,
+        };
+        let scope = table.scope.as_slice();
+        let cells = table.cells.as_slice();
+        self.keep(state::add_table(self.state, sort, scope, cells))
     }
-    Sort::Forbid
-}
 
-fn at_most(count: usize, most: usize) -> usize
-    ensures { result ≤ most }
-{
-    if count < most {
-        return count;
+    #[tactic(auto, using(state::proofs::Runs::reached_after))]
+    fn add_linear(&mut self, rule: &Linear) -> Result<(), Number> {
+        let scope = rule.scope.as_slice();
+        let coefficients = rule.coefficients.as_slice();
+        self.keep(state::add_linear(self.state, scope, coefficients, rule.bound))
     }
-    most
-}
 
-pub(crate) fn table_added(s: State, call: Call) -> After
-    requires { Reached s }
-    ensures { Reached result.state }
-{
-    let scope = call.scope;
-    let cells = call.cells;
-    let arity = at_most(call.arity, SHORT);
-    let length = at_most(call.length, LONG);
-    let after = state::add_table(s, sort_of(call.kind), &scope[..arity], &cells[..length]);
-    let answer = after.answer;
-    let state = after.state;
-    After {
-        number: answered(answer),
-        state,
+    #[tactic(auto, using(state::proofs::Runs::reached_after))]
+    fn decide(&mut self, decision: Decision) -> Result<(), Number> {
+        let x = decision.variable;
+        let v = decision.value;
+        match decision.way {
+            Way::Pin => self.keep(decide::pin(self.state, x, v)),
+            Way::Ban => self.keep(decide::ban(self.state, x, v)),
+        }
     }
-}
 
-// The number with its sign; the largest where it doesn't fit.
-fn signed(minus: bool, size: u64) -> i32 {
-    if 2_000_000_000 < size {
-        return 2_000_000_000;
-    }
-    let number = size as i32;
-    if minus {
-        return -number;
-    }
-    number
-}
-
-fn coefficients_of(call: Call) -> [i32; SHORT] {
-    let mut coefficients = [0i32; SHORT];
-    let mut i = 0;
-    while i < SHORT {
-        let minus = byte_at(&call.minus, i) == 1;
-        coefficients[i] = signed(minus, word_at(&call.weights, i));
-        i += 1;
-    }
-    coefficients
-}
-
-pub(crate) fn linear_added(s: State, call: Call) -> After
-    requires { Reached s }
-    ensures { Reached result.state }
-{
-    let scope = call.scope;
-    let coefficients = coefficients_of(call);
-    let arity = at_most(call.arity, SHORT);
-    let terms = at_most(call.terms, SHORT);
-    let bound = signed(call.bound_minus, call.bound);
-    let after = state::add_linear(s, &scope[..arity], &coefficients[..terms], bound);
-    let answer = after.answer;
-    let state = after.state;
-    After {
-        number: answered(answer),
-        state,
-    }
-}
-
-pub(crate) fn objectives_named(s: State, call: Call) -> After
-    requires { Reached s }
-    ensures { Reached result.state }
-{
-    let scope = call.scope;
-    let arity = at_most(call.arity, SHORT);
-    let after = setup::name_objectives(s, &scope[..arity]);
-    let answer = after.answer;
-    let state = after.state;
-    After {
-        number: answered(answer),
-        state,
-    }
-}
-
-pub(crate) fn pinned(s: State, x: u8, v: u8) -> After
-    requires { Reached s }
-    ensures { Reached result.state }
-{
-    let after = decide::pin(s, x, v);
-    let answer = after.answer;
-    let state = after.state;
-    After {
-        number: decision_answered(answer),
-        state,
-    }
-}
-
-pub(crate) fn banned(s: State, x: u8, v: u8) -> After
-    requires { Reached s }
-    ensures { Reached result.state }
-{
-    let after = decide::ban(s, x, v);
-    let answer = after.answer;
-    let state = after.state;
-    After {
-        number: decision_answered(answer),
-        state,
-    }
-}
-
-pub(crate) fn taken_back(s: State, depth: usize) -> After
-    requires { Reached s }
-    ensures { Reached result.state }
-{
-    let after = decide::take_back(s, depth);
-    let answer = after.answer;
-    let state = after.state;
-    After {
-        number: answered(answer),
-        state,
-    }
-}
-
-// Solves into the buffer's first `length` places.
-pub(crate) fn solved(s: State, buffer: [u8; SHORT], length: usize) -> Written
-    requires { Reached s }
-{
-    let mut after = buffer;
-    let count = at_most(length, SHORT);
-    let answer = leximin::solve(s, &mut after[..count]);
-    Written {
-        number: solving_answered(answer),
-        buffer: after,
-    }
-}
-
-// The call on the library's state.
-pub(crate) fn called(s: State, call: Call) -> After
-    requires { Reached s }
-    ensures { Reached result.state }
-{
-    let kind = call.kind;
-    match kind {
-        VARIABLE => variable_added(s, call.marks),
-        ALLOW | FORBID => table_added(s, call),
-        LINEAR => linear_added(s, call),
-        OBJECTIVES => objectives_named(s, call),
-        PIN => pinned(s, call.variable, call.value),
-        BAN => banned(s, call.variable, call.value),
-        _ => taken_back(s, call.depth),
+    // Keeps the state that a call left, and hands on its answer.
+    fn keep(&mut self, after: AfterCall) -> Result<(), Number>
+        requires { Reached after.state }
+    {
+        self.state = after.state;
+        Ok(after.answer?)
     }
 }

@@ -1,126 +1,146 @@
 // Random small networks: the calls of each, made from the network's seed and the call's. Some arguments are wrong on purpose.
-use crate::calls::{ALLOW, BAN, Call, FORBID, LINEAR, OBJECTIVES, PIN, TAKE_BACK, VARIABLE, blank};
-use crate::places::{SHORT, from, only, plus, word_at};
-use crate::random::{chance, fault, index, pick, small, wide};
+use crate::calls::{Call, Decision, Sort, Way};
+use crate::lists::{at, from, only};
+use crate::random::Seed;
 use crate::random_arguments::{linear_call, objectives_call, table_call};
+use crate::second::Lists;
 
 // The calls of a small network.
-pub(crate) const CALLS: usize = 20;
+pub(crate) const CALLS: u8 = 20;
 
-// The kinds of the calls, by the numbers of `calls`: one of sixteen is drawn.
-const FIRST: [u8; 16] = [0, 0, 0, 0, 0, 0, 0, 0, 0, 0, 0, 0, 0, 3, 4, 5];
+// Where a network stands when a call is made.
+#[derive(Clone, Copy)]
+pub(crate) struct Scene {
+    pub variables: u8,
+    pub decisions: u8,
+    // the values left to each variable
+    pub lists: Lists,
+}
 
-const NAMING: [u8; 16] = [4, 4, 4, 4, 4, 4, 4, 4, 4, 4, 4, 4, 4, 0, 1, 3];
-
-const RULES: [u8; 16] = [1, 1, 1, 1, 2, 2, 2, 2, 2, 3, 3, 3, 3, 3, 4, 0];
-
-const DECISIONS: [u8; 16] = [5, 5, 5, 5, 6, 6, 6, 6, 6, 6, 7, 7, 0, 1, 3, 4];
+enum Kind {
+    Variable,
+    Allow,
+    Forbid,
+    Linear,
+    Objectives,
+    Pin,
+    Ban,
+    TakeBack,
+}
 
 // The kind of a call: first variables, then objectives, rules and decisions; all are taken back, and it goes on with rules.
-fn kind_of(seed: u64, step: usize) -> u8 {
-    let r = pick(seed, 1, 16);
-    if step < 4 {
-        return chosen(&FIRST, r);
+fn kind_of(seed: Seed, step: u8) -> Kind {
+    let r = seed.pick(1, 16);
+    match step {
+        0..=3 => first_kind(r),
+        4 | 8 => naming_kind(r),
+        5..=7 | 16 => rule_kind(r),
+        _ => decision_kind(r),
     }
-    if step == 4 || step == 8 {
-        return chosen(&NAMING, r);
-    }
-    if step < 8 || step == 16 {
-        return chosen(&RULES, r);
-    }
-    chosen(&DECISIONS, r)
 }
 
-fn chosen(kinds: &[u8; 16], r: u8) -> u8 {
-    let at = index(r);
-    if at < 16 {
-        return kinds[at];
+// One of sixteen is drawn, here and below.
+fn first_kind(r: u8) -> Kind {
+    match r {
+        13 => Kind::Linear,
+        14 => Kind::Objectives,
+        15 => Kind::Pin,
+        _ => Kind::Variable,
     }
-    0
 }
 
-// The call of a step, where so many variables and decisions stand and these values are left.
-pub(crate) fn small_call(
-    network: u64,
-    seed: u64,
-    step: usize,
-    n: usize,
-    depth: usize,
-    lists: [u64; SHORT],
-) -> Call {
-    let kind = kind_of(seed, step);
+fn naming_kind(r: u8) -> Kind {
+    match r {
+        13 => Kind::Variable,
+        14 => Kind::Allow,
+        15 => Kind::Linear,
+        _ => Kind::Objectives,
+    }
+}
+
+fn rule_kind(r: u8) -> Kind {
+    match r {
+        0..=3 => Kind::Allow,
+        4..=8 => Kind::Forbid,
+        9..=13 => Kind::Linear,
+        14 => Kind::Objectives,
+        _ => Kind::Variable,
+    }
+}
+
+fn decision_kind(r: u8) -> Kind {
+    match r {
+        0..=3 => Kind::Pin,
+        4..=9 => Kind::Ban,
+        10 | 11 => Kind::TakeBack,
+        12 => Kind::Variable,
+        13 => Kind::Allow,
+        14 => Kind::Linear,
+        _ => Kind::Objectives,
+    }
+}
+
+// The call of a step.
+pub(crate) fn small_call(network: Seed, seed: Seed, step: u8, scene: &Scene) -> Call {
     if step == 15 {
-        return blank(TAKE_BACK);
+        return Call::TakeBack(0);
     }
-    match kind {
-        VARIABLE => variable_call(network, seed),
-        ALLOW | FORBID => table_call(kind, network, seed, small(n)),
-        LINEAR => linear_call(seed, small(n)),
-        OBJECTIVES => objectives_call(seed, small(n)),
-        PIN | BAN => decision_call(kind, network, seed, small(n), lists),
-        _ => take_back_call(seed, depth),
+    let n = scene.variables;
+    match kind_of(seed, step) {
+        Kind::Variable => Call::Variable(marks_of(network, seed)),
+        Kind::Allow => table_call(Sort::Allow, network, seed, n),
+        Kind::Forbid => table_call(Sort::Forbid, network, seed, n),
+        Kind::Linear => linear_call(seed, n),
+        Kind::Objectives => objectives_call(seed, n),
+        Kind::Pin => decision_call(Way::Pin, network, seed, scene),
+        Kind::Ban => decision_call(Way::Ban, network, seed, scene),
+        Kind::TakeBack => Call::TakeBack(depth_of(seed, scene.decisions)),
     }
 }
 
 // The network's seven values; most variables declare some of the first six.
-pub(crate) fn value_of(network: u64, i: u8) -> u8 {
+pub(crate) fn value_of(network: Seed, i: u8) -> u8 {
     let place = i % 7;
-    let way = pick(network, 900, 5);
-    if way == 0 {
-        return 2 * place + 1;
+    match network.pick(900, 5) {
+        0 => 2 * place + 1,
+        1 => 63 - 9 * place,
+        2 => network.pick(910 + u64::from(place), 64),
+        _ => place,
     }
-    if way == 1 {
-        return 63 - 9 * place;
-    }
-    if way == 2 {
-        return pick(network, 910 + wide(place), 64);
-    }
-    place
 }
 
-fn variable_call(network: u64, seed: u64) -> Call {
-    let mut call = blank(VARIABLE);
-    if chance(seed, 10, 16) {
-        return call;
+// The values that a variable declares: now and then none or all, and most often some of the network's.
+fn marks_of(network: Seed, seed: Seed) -> u64 {
+    if seed.chance(10, 16) {
+        return 0;
     }
-    if chance(seed, 11, 60) {
-        call.marks = 0xffff_ffff_ffff_ffff;
-        return call;
+    if seed.chance(11, 60) {
+        return u64::MAX;
     }
-    call.marks = marks_of(network, seed);
-    call
-}
-
-// Some of the network's values.
-fn marks_of(network: u64, seed: u64) -> u64 {
-    let mut marks: u64 = 0;
-    let mut i: u8 = 0;
-    while i < 6 {
-        if pick(seed, 20 + wide(i), 8) < 5 {
-            marks = marks | only(value_of(network, i));
-        }
-        i += 1;
-    }
-    marks
+    (0..6)
+        .filter(|i| seed.pick(20 + u64::from(*i), 8) < 5)
+        .fold(0, |marks, i| marks | only(value_of(network, i)))
 }
 
 // A pin or a ban, most often of a value left.
-pub(crate) fn decision_call(kind: u8, network: u64, seed: u64, n: u8, lists: [u64; SHORT]) -> Call {
-    let mut call = blank(kind);
-    let wanted = value_of(network, pick(seed, 30, 7));
-    let mut x = pick(seed, 31, n);
-    if fault(seed, 32, 20) {
-        x = pick(seed, 33, 40);
+fn decision_call(way: Way, network: Seed, seed: Seed, scene: &Scene) -> Call {
+    let wanted = value_of(network, seed.pick(30, 7));
+    let mut variable = seed.pick(31, scene.variables);
+    if seed.fault(32, 20) {
+        variable = seed.pick(33, 40);
     }
-    call.variable = x;
-    call.value = left_near(word_at(&lists, index(x)), wanted);
-    if fault(seed, 34, 8) {
-        call.value = wanted;
+    let mut value = left_near(at(scene.lists.as_slice(), variable), wanted);
+    if seed.fault(34, 8) {
+        value = wanted;
     }
-    if fault(seed, 35, 20) {
-        call.value = pick(seed, 36, 255);
+    if seed.fault(35, 20) {
+        value = seed.pick(36, 255);
     }
-    call
+    Call::Decide(Decision {
+        way,
+        variable,
+        value,
+    })
 }
 
 // The lowest value left from v on, or the lowest of all; v where none is left.
@@ -135,11 +155,10 @@ fn left_near(list: u64, v: u8) -> u8 {
     from(list, 0)
 }
 
-fn take_back_call(seed: u64, depth: usize) -> Call {
-    let mut call = blank(TAKE_BACK);
-    call.depth = index(pick(seed, 40, small(plus(depth, 1))));
-    if fault(seed, 41, 8) {
-        call.depth = plus(depth, plus(1, index(pick(seed, 42, 3))));
+// The number of decisions that a take-back leaves; now and then it is too large.
+fn depth_of(seed: Seed, depth: u8) -> usize {
+    if seed.fault(41, 8) {
+        return usize::from(depth) + 1 + usize::from(seed.pick(42, 3));
     }
-    call
+    usize::from(seed.pick(40, depth.saturating_add(1)))
 }

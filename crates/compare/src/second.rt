@@ -1,228 +1,136 @@
 // A second solver, by document 01 and plain enumeration: what stands, and what an accepted call changes.
-use crate::calls::{ALLOW, BAN, Call, FORBID, LINEAR, OBJECTIVES, PIN, VARIABLE};
-use crate::places::{LONG, SHORT, byte_at, cell_at, plus, put_byte, put_number, put_word, word_at};
-use crate::random::short;
+use crate::calls::{Call, Coefficients, Decision, Linear, Number, Scope, Sort, Table, Way};
+use crate::lists::List;
 use crate::second_checks::tested;
 
-// A rule's numbers stand in the room from its start on: its variables, then its tuples, or its coefficients each as twice
-// its size, and one more if it is below zero.
+// A set of values for each variable.
+pub(crate) type Lists = List<u64, 32>;
+
 #[derive(Clone, Copy)]
 pub(crate) struct Rule {
-    pub sort: u8,
-    pub arity: usize,
-    pub start: usize,
-    pub tuples: usize,
-    pub bound: u64,
-    pub bound_minus: bool,
+    pub scope: Scope,
+    pub test: Test,
+}
+
+// What a rule asks of the values of its variables.
+#[derive(Clone, Copy)]
+pub(crate) enum Test {
+    // Whether they are a tuple: the tuples stand in the room from `start` to before `end`.
+    Tuples {
+        sort: Sort,
+        start: usize,
+        end: usize,
+    },
+    // The sum of their products with the coefficients is at most the bound.
+    AtMost {
+        coefficients: Coefficients,
+        bound: i32,
+    },
 }
 
 #[derive(Clone, Copy)]
 pub(crate) struct Record {
-    pub variables: usize,
-    pub declared: [u64; SHORT],
-    pub rules: usize,
-    pub rule: [Rule; 48],
-    // numbers held as document 01 counts them, and places of the room in use
+    pub declared: Lists,
+    pub rules: List<Rule, 48>,
+    // the cells of all tables
+    pub room: List<u8, 4096>,
+    // numbers held as document 01 counts them
     pub held: usize,
-    pub used: usize,
-    pub room: [u16; LONG],
-    pub objectives: usize,
-    pub objective: [u8; SHORT],
-    pub decisions: usize,
-    pub decided_kind: [u8; SHORT],
-    pub decided_variable: [u8; SHORT],
-    pub decided_value: [u8; SHORT],
+    pub objectives: Scope,
+    pub decided: List<Decision, 32>,
 }
 
-#[derive(Clone, Copy)]
-pub(crate) struct Reply {
-    pub number: u8,
-    pub record: Record,
+impl Record {
+    pub(crate) fn new() -> Record {
+        Record {
+            declared: List::new(0),
+            rules: List::new(no_rule()),
+            room: List::new(0),
+            held: 0,
+            objectives: List::new(0),
+            decided: List::new(Decision {
+                way: Way::Pin,
+                variable: 0,
+                value: 0,
+            }),
+        }
+    }
+
+    pub(crate) fn variables(&self) -> u8 {
+        u8::try_from(self.declared.len()).unwrap_or(u8::MAX)
+    }
+
+    pub(crate) fn decisions(&self) -> u8 {
+        u8::try_from(self.decided.len()).unwrap_or(u8::MAX)
+    }
+
+    // The cells of a table.
+    pub(crate) fn cells(&self, start: usize, end: usize) -> &[u8] {
+        self.room.as_slice().get(start..end).unwrap_or(&[])
+    }
+
+    // Answers the call; an accepted one changes what stands.
+    pub(crate) fn called(&mut self, call: &Call) -> Result<(), Number> {
+        tested(self, call)?;
+        match call {
+            Call::Variable(marks) => self.declared.push(*marks),
+            Call::Table(table) => self.add_table(table),
+            Call::Linear(rule) => self.add_linear(rule),
+            Call::Objectives(named) => self.objectives = *named,
+            Call::Decide(decision) => self.decided.push(*decision),
+            Call::TakeBack(depth) => self.decided.truncate(*depth),
+        }
+        Ok(())
+    }
+
+    fn add_table(&mut self, table: &Table) {
+        let start = self.room.len();
+        for cell in table.cells.as_slice() {
+            self.room.push(*cell);
+        }
+        let end = self.room.len();
+        let test = Test::Tuples {
+            sort: table.sort,
+            start,
+            end,
+        };
+        let scope = table.scope;
+        self.rules.push(Rule { scope, test });
+        self.hold(table_numbers(table));
+    }
+
+    fn add_linear(&mut self, rule: &Linear) {
+        let scope = rule.scope;
+        let test = Test::AtMost {
+            coefficients: rule.coefficients,
+            bound: rule.bound,
+        };
+        self.rules.push(Rule { scope, test });
+        self.hold(linear_numbers(rule));
+    }
+
+    // So many numbers more are held.
+    fn hold(&mut self, more: usize) {
+        self.held = self.held.wrapping_add(more);
+    }
+}
+
+// The numbers that a table takes: its variables, and the cells of its tuples.
+pub(crate) fn table_numbers(table: &Table) -> usize {
+    table.scope.len().wrapping_add(table.cells.len())
+}
+
+// The numbers that a linear rule takes: its variables, their coefficients, and the bound.
+pub(crate) fn linear_numbers(rule: &Linear) -> usize {
+    rule.scope.len().wrapping_mul(2).wrapping_add(1)
 }
 
 fn no_rule() -> Rule {
     Rule {
-        sort: 0,
-        arity: 0,
-        start: 0,
-        tuples: 0,
-        bound: 0,
-        bound_minus: false,
+        scope: List::new(0),
+        test: Test::AtMost {
+            coefficients: List::new(0),
+            bound: 0,
+        },
     }
-}
-
-pub(crate) fn empty() -> Record {
-    let rule = no_rule();
-    Record {
-        variables: 0,
-        declared: [0; SHORT],
-        rules: 0,
-        rule: [rule; 48],
-        held: 0,
-        used: 0,
-        room: [0; LONG],
-        objectives: 0,
-        objective: [0; SHORT],
-        decisions: 0,
-        decided_kind: [0; SHORT],
-        decided_variable: [0; SHORT],
-        decided_value: [0; SHORT],
-    }
-}
-
-// The number that the call gets, 0 if it is accepted, and what stands after it.
-pub(crate) fn called(record: Record, call: Call) -> Reply {
-    let number = tested(record, call);
-    if number == 0 {
-        return Reply {
-            number,
-            record: changed(record, call),
-        };
-    }
-    Reply { number, record }
-}
-
-fn changed(record: Record, call: Call) -> Record {
-    let kind = call.kind;
-    match kind {
-        VARIABLE => with_variable(record, call),
-        ALLOW | FORBID => with_table(record, call),
-        LINEAR => with_linear(record, call),
-        OBJECTIVES => with_objectives(record, call),
-        PIN | BAN => with_decision(record, call),
-        _ => taken_back(record, call),
-    }
-}
-
-fn with_variable(record: Record, call: Call) -> Record {
-    let mut after = record;
-    let n = after.variables;
-    put_word(&mut after.declared, n, call.marks);
-    after.variables = plus(n, 1);
-    after
-}
-
-fn with_table(record: Record, call: Call) -> Record {
-    let mut after = record;
-    let arity = call.arity;
-    let start = after.used;
-    append_scope(&mut after.room, start, &call.scope, arity);
-    append_cells(
-        &mut after.room,
-        plus(start, arity),
-        &call.cells,
-        call.length,
-    );
-    let rule = Rule {
-        sort: call.kind,
-        arity,
-        start,
-        tuples: divided(call.length, arity),
-        bound: 0,
-        bound_minus: false,
-    };
-    with_rule(
-        after,
-        rule,
-        plus(arity, call.length),
-        plus(arity, call.length),
-    )
-}
-
-fn divided(a: usize, b: usize) -> usize {
-    if b == 0 {
-        return 0;
-    }
-    a / b
-}
-
-fn append_scope(room: &mut [u16; LONG], start: usize, scope: &[u8; SHORT], arity: usize) {
-    let mut i = 0;
-    while i < arity {
-        put_number(room, plus(start, i), short(byte_at(scope, i)));
-        i += 1;
-    }
-}
-
-fn append_cells(room: &mut [u16; LONG], start: usize, cells: &[u8; LONG], length: usize) {
-    let mut i = 0;
-    while i < length {
-        put_number(room, plus(start, i), short(cell_at(cells, i)));
-        i += 1;
-    }
-}
-
-fn append_weights(room: &mut [u16; LONG], start: usize, call: Call) {
-    let mut i = 0;
-    while i < call.arity {
-        let code = coded(word_at(&call.weights, i), byte_at(&call.minus, i));
-        put_number(room, plus(start, i), code);
-        i += 1;
-    }
-}
-
-// A coefficient as the room keeps it; it is at most 1,000.
-fn coded(weight: u64, minus: u8) -> u16 {
-    if 1000 < weight {
-        return 0;
-    }
-    if minus == 1 {
-        return 2 * weight as u16 + 1;
-    }
-    2 * weight as u16
-}
-
-fn with_linear(record: Record, call: Call) -> Record {
-    let mut after = record;
-    let arity = call.arity;
-    let start = after.used;
-    append_scope(&mut after.room, start, &call.scope, arity);
-    append_weights(&mut after.room, plus(start, arity), call);
-    let rule = Rule {
-        sort: LINEAR,
-        arity,
-        start,
-        tuples: 0,
-        bound: call.bound,
-        bound_minus: call.bound_minus,
-    };
-    let places = plus(arity, arity);
-    with_rule(after, rule, places, plus(places, 1))
-}
-
-// One rule more, which uses and holds so many numbers.
-fn with_rule(record: Record, rule: Rule, places: usize, numbers: usize) -> Record {
-    let mut after = record;
-    let k = after.rules;
-    if k < 48 {
-        after.rule[k] = rule;
-    }
-    after.rules = plus(k, 1);
-    after.used = plus(after.used, places);
-    after.held = plus(after.held, numbers);
-    after
-}
-
-fn with_objectives(record: Record, call: Call) -> Record {
-    let mut after = record;
-    let named = call.scope;
-    after.objective = named;
-    after.objectives = call.arity;
-    after
-}
-
-fn with_decision(record: Record, call: Call) -> Record {
-    let mut after = record;
-    let k = after.decisions;
-    put_byte(&mut after.decided_kind, k, call.kind);
-    put_byte(&mut after.decided_variable, k, call.variable);
-    put_byte(&mut after.decided_value, k, call.value);
-    after.decisions = plus(k, 1);
-    after
-}
-
-fn taken_back(record: Record, call: Call) -> Record {
-    let mut after = record;
-    after.decisions = call.depth;
-    after
 }

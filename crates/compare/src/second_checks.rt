@@ -1,213 +1,166 @@
 // The second solver's tests of each call, in document 01's order.
-use crate::calls::{ALLOW, BAN, Call, FORBID, LINEAR, OBJECTIVES, PIN, VARIABLE};
-use crate::places::{LONG, SHORT, byte_at, cell_at, has, plus, word_at};
-use crate::random::index;
-use crate::second::Record;
+use crate::calls::{Call, Decision, Linear, Number, Scope, Table};
+use crate::lists::{at, has};
+use crate::second::{Record, linear_numbers, table_numbers};
 use crate::second_filter::left;
 
-// The number that the call gets, 0 if it is accepted.
-pub(crate) fn tested(record: Record, call: Call) -> u8 {
-    let kind = call.kind;
-    match kind {
-        VARIABLE => variable_tested(record),
-        ALLOW | FORBID => table_tested(record, call),
-        LINEAR => linear_tested(record, call),
-        OBJECTIVES => objectives_tested(record, call),
-        PIN | BAN => decision_tested(record, call),
-        _ => take_back_tested(record, call),
+// Why a call is refused, with document 01's numbers.
+#[derive(Clone, Copy)]
+pub(crate) enum Refusal {
+    NoSuchVariable = 1,
+    VariableTwice = 2,
+    WrongLength = 3,
+    OutOfRange = 4,
+    TupleTwice = 5,
+    Full = 6,
+    NotLeft = 8,
+    TooManyDecisions = 9,
+    TooDeep = 10,
+    ShortBuffer = 11,
+    NoObjective = 12,
+    Decided = 13,
+}
+
+impl From<Refusal> for Number {
+    fn from(refusal: Refusal) -> Number {
+        Number(refusal as u8)
     }
 }
 
-fn variable_tested(record: Record) -> u8 {
-    if 0 < record.decisions {
-        return 13;
+// Whether the call is accepted.
+pub(crate) fn tested(record: &Record, call: &Call) -> Result<(), Refusal> {
+    match call {
+        Call::Variable(_) => variable_tested(record),
+        Call::Table(table) => table_tested(record, table),
+        Call::Linear(rule) => linear_tested(record, rule),
+        Call::Objectives(named) => objectives_tested(record, named),
+        Call::Decide(decision) => decision_tested(record, *decision),
+        Call::TakeBack(depth) => take_back_tested(record, *depth),
     }
-    if 32 <= record.variables {
-        return 6;
-    }
-    0
 }
 
-fn table_tested(record: Record, call: Call) -> u8 {
-    let arity = call.arity;
-    if 0 < record.decisions {
-        return 13;
+fn variable_tested(record: &Record) -> Result<(), Refusal> {
+    if !record.decided.is_empty() {
+        return Err(Refusal::Decided);
     }
-    if arity == 0 || 8 < arity || call.length % arity != 0 {
-        return 3;
+    if record.declared.is_full() {
+        return Err(Refusal::Full);
     }
-    if any_unknown(&call.scope, arity, record.variables) {
-        return 1;
-    }
-    if any_twice(&call.scope, arity) {
-        return 2;
-    }
-    if any_large(&call.cells, call.length) {
-        return 4;
-    }
-    if tuple_twice(&call.cells, arity, call.length / arity) {
-        return 5;
-    }
-    room_tested(record, plus(arity, call.length))
+    Ok(())
 }
 
-fn linear_tested(record: Record, call: Call) -> u8 {
-    let arity = call.arity;
-    if 0 < record.decisions {
-        return 13;
+fn table_tested(record: &Record, table: &Table) -> Result<(), Refusal> {
+    let arity = table.scope.len();
+    let cells = table.cells.as_slice();
+    if !record.decided.is_empty() {
+        return Err(Refusal::Decided);
     }
-    if arity == 0 || 32 < arity || call.terms != arity {
-        return 3;
+    if arity == 0 || 8 < arity || cells.len() % arity != 0 {
+        return Err(Refusal::WrongLength);
     }
-    if any_unknown(&call.scope, arity, record.variables) {
-        return 1;
+    scope_tested(record, &table.scope)?;
+    if cells.iter().any(|v| 64 <= *v) {
+        return Err(Refusal::OutOfRange);
     }
-    if any_twice(&call.scope, arity) {
-        return 2;
+    if tuple_twice(cells, arity) {
+        return Err(Refusal::TupleTwice);
     }
-    if any_heavy(&call.weights, arity) || 5_000_000 < call.bound {
-        return 4;
+    room_tested(record, table_numbers(table))
+}
+
+fn linear_tested(record: &Record, rule: &Linear) -> Result<(), Refusal> {
+    let arity = rule.scope.len();
+    let coefficients = rule.coefficients.as_slice();
+    if !record.decided.is_empty() {
+        return Err(Refusal::Decided);
     }
-    room_tested(record, plus(plus(arity, arity), 1))
+    if arity == 0 || 32 < arity || coefficients.len() != arity {
+        return Err(Refusal::WrongLength);
+    }
+    scope_tested(record, &rule.scope)?;
+    if coefficients.iter().any(|c| 1000 < c.unsigned_abs())
+        || 5_000_000 < rule.bound.unsigned_abs()
+    {
+        return Err(Refusal::OutOfRange);
+    }
+    room_tested(record, linear_numbers(rule))
+}
+
+// Whether a rule's variables are known, and none stands twice.
+fn scope_tested(record: &Record, scope: &Scope) -> Result<(), Refusal> {
+    if any_unknown(scope, record.variables()) {
+        return Err(Refusal::NoSuchVariable);
+    }
+    if any_twice(scope.as_slice()) {
+        return Err(Refusal::VariableTwice);
+    }
+    Ok(())
 }
 
 // Whether a rule more is held that takes so many numbers.
-fn room_tested(record: Record, more: usize) -> u8 {
-    if 48 <= record.rules {
-        return 6;
+fn room_tested(record: &Record, more: usize) -> Result<(), Refusal> {
+    if record.rules.is_full() || 4096 < record.held.wrapping_add(more) {
+        return Err(Refusal::Full);
     }
-    if 4096 < plus(record.held, more) {
-        return 6;
-    }
-    0
+    Ok(())
 }
 
-fn objectives_tested(record: Record, call: Call) -> u8 {
-    if call.arity == 0 || 16 < call.arity {
-        return 3;
+fn objectives_tested(record: &Record, named: &Scope) -> Result<(), Refusal> {
+    if named.is_empty() || 16 < named.len() {
+        return Err(Refusal::WrongLength);
     }
-    if any_unknown(&call.scope, call.arity, record.variables) {
-        return 1;
+    if any_unknown(named, record.variables()) {
+        return Err(Refusal::NoSuchVariable);
     }
-    0
+    Ok(())
 }
 
-fn decision_tested(record: Record, call: Call) -> u8 {
-    let x = index(call.variable);
-    if record.variables <= x {
-        return 1;
+fn decision_tested(record: &Record, decision: Decision) -> Result<(), Refusal> {
+    if record.variables() <= decision.variable {
+        return Err(Refusal::NoSuchVariable);
     }
-    if 64 <= call.value {
-        return 4;
+    if 64 <= decision.value {
+        return Err(Refusal::OutOfRange);
     }
-    if 32 <= record.decisions {
-        return 9;
+    if record.decided.is_full() {
+        return Err(Refusal::TooManyDecisions);
     }
-    let lists = left(record);
-    if has(word_at(&lists, x), call.value) {
-        return 0;
+    let list = at(left(record).as_slice(), decision.variable);
+    if !has(list, decision.value) {
+        return Err(Refusal::NotLeft);
     }
-    8
+    Ok(())
 }
 
-fn take_back_tested(record: Record, call: Call) -> u8 {
-    if record.decisions < call.depth {
-        return 10;
+fn take_back_tested(record: &Record, depth: usize) -> Result<(), Refusal> {
+    if record.decided.len() < depth {
+        return Err(Refusal::TooDeep);
     }
-    0
+    Ok(())
 }
 
-fn any_unknown(scope: &[u8; SHORT], arity: usize, variables: usize) -> bool {
-    let mut i = 0;
-    while i < arity {
-        if variables <= index(byte_at(scope, i)) {
+fn any_unknown(scope: &Scope, variables: u8) -> bool {
+    scope.as_slice().iter().any(|x| variables <= *x)
+}
+
+pub(crate) fn any_twice(scope: &[u8]) -> bool {
+    for (i, x) in scope.iter().enumerate() {
+        if scope[..i].contains(x) {
             return true;
         }
-        i += 1;
     }
     false
 }
 
-pub(crate) fn any_twice(scope: &[u8; SHORT], arity: usize) -> bool {
-    let mut i = 0;
-    while i < arity {
-        if among_first(scope, i, byte_at(scope, i)) {
+// Whether one of the tuples, so many cells each, stands twice.
+fn tuple_twice(cells: &[u8], arity: usize) -> bool {
+    if arity == 0 {
+        return false;
+    }
+    for (i, tuple) in cells.chunks_exact(arity).enumerate() {
+        if cells.chunks_exact(arity).take(i).any(|t| t == tuple) {
             return true;
         }
-        i += 1;
     }
     false
-}
-
-fn among_first(scope: &[u8; SHORT], count: usize, x: u8) -> bool {
-    let mut i = 0;
-    while i < count {
-        if byte_at(scope, i) == x {
-            return true;
-        }
-        i += 1;
-    }
-    false
-}
-
-// Whether a tuple's value is none of 0 to 63.
-fn any_large(cells: &[u8; LONG], length: usize) -> bool {
-    let mut i = 0;
-    while i < length {
-        if 64 <= cell_at(cells, i) {
-            return true;
-        }
-        i += 1;
-    }
-    false
-}
-
-// Whether a coefficient is none of -1,000 to 1,000.
-fn any_heavy(weights: &[u64; SHORT], terms: usize) -> bool {
-    let mut i = 0;
-    while i < terms {
-        if 1000 < word_at(weights, i) {
-            return true;
-        }
-        i += 1;
-    }
-    false
-}
-
-fn tuple_twice(cells: &[u8; LONG], arity: usize, tuples: usize) -> bool {
-    let mut start = 0;
-    let mut i = 0;
-    while i < tuples {
-        if tuple_before(cells, arity, i, start) {
-            return true;
-        }
-        start = plus(start, arity);
-        i += 1;
-    }
-    false
-}
-
-// Whether one of the first tuples is the tuple at the place.
-fn tuple_before(cells: &[u8; LONG], arity: usize, count: usize, place: usize) -> bool {
-    let mut start = 0;
-    let mut i = 0;
-    while i < count {
-        if same_tuple(cells, arity, start, place) {
-            return true;
-        }
-        start = plus(start, arity);
-        i += 1;
-    }
-    false
-}
-
-fn same_tuple(cells: &[u8; LONG], arity: usize, a: usize, b: usize) -> bool {
-    let mut i = 0;
-    while i < arity {
-        if cell_at(cells, plus(a, i)) != cell_at(cells, plus(b, i)) {
-            return false;
-        }
-        i += 1;
-    }
-    true
 }

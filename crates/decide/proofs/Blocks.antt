@@ -1,4 +1,4 @@
--- The blocks of lists: what a decision adds, and what taking back leaves. Assumes nothing.
+-- Decisions and the blocks of lists: what one more adds, and what taking back leaves. Assumes nothing.
 use mathlib.Core.Path.{◌≡◌, sym, ap, ◌∙◌}
 use mathlib.Core.Logic.{◌⊎◌, inl, inr, ⊎_elim, by_cases}
 use mathlib.Core.List.{List, [], ◌∷◌, ◌++◌}
@@ -16,7 +16,8 @@ use Rattle.blocks.specs.Blocks.{block, block_places, zeroed_from}
 use Rattle.blocks.proofs.Copying.{zeros_at}
 use Rattle.blocks.proofs.Reading.{block_at, block_length}
 use Rattle.blocks.proofs.Writing.{written_in, written_out, block_written, block_stays}
-use Rattle.state.specs.Holds.{HoldsLists, up_to}
+use Rattle.state.specs.declared.State.{State}
+use Rattle.state.specs.Holds.{Holds, HoldsLists, up_to}
 
 -- lists with the same numbers there have the same block
 block_same : (l m : List ℕ) (k n : ℕ) → length l ≡ block_places → length m ≡ block_places → k ≤ decision_limit → n ≤ variable_limit
@@ -129,3 +130,23 @@ module _ (w : Standing) (p : Proper w) (l : List ℕ) (h : HoldsLists l w) where
         stays : (j x : ℕ) → x < variable_limit → (length w.declared ≤ x) ⊎ (length (take k w.decisions) < j) → j ≤ k → get_or back (variable_limit * j + x) 0 ≡ 0
         stays j x small past low =
             back_before (variable_limit * j + x) (omega arith) ∙ h.rest j x small (⊎_elim inl (λ i. absurd (omega (arith, size))) past)
+
+-- ---- the state with its lists after k decisions
+
+abbrev pub at_depth : State → ℕ → List ℕ → State
+at_depth s k l = record s { depth = k; lists = l }
+
+pub held_at : {s : State} {w : Standing} {l : List ℕ} {ds : List Decision} {k : ℕ} → Holds s w → k ≡ length ds → HoldsLists l (with_decisions w ds)
+    → Holds (at_depth s k l) (with_decisions w ds)
+held_at hold deep kept = record {
+  variables = hold.variables;
+  declared = hold.declared;
+  rules = hold.rules;
+  heads = hold.heads;
+  used = hold.used;
+  room = hold.room;
+  objectives = hold.objectives;
+  objective = hold.objective;
+  depth = deep;
+  lists = kept;
+}

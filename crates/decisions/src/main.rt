@@ -4,56 +4,34 @@
 
 ghost use Rattle.state.specs.Holds.{Reached};
 
-use decide::DecisionAnswer;
 use refusals::Refusal;
 use state::State;
 
-fn letter(answer: DecisionAnswer) -> u8 {
+fn letter(answer: Result<(), Refusal>) -> char {
     match answer {
-        DecisionAnswer::Accepted => 121,
-        DecisionAnswer::Refused(r) => reason(r),
+        Ok(()) => 'y',
+        Err(Refusal::TooManyDecisions) => 'n',
+        Err(_) => '?',
     }
 }
 
-fn reason(refusal: Refusal) -> u8 {
-    match refusal {
-        Refusal::TooManyDecisions => 110,
-        _ => 63,
-    }
-}
-
-#[derive(Clone, Copy)]
-struct Banned {
-    state: State,
-    letters: [u8; 35],
-}
-
-// Bans the values 0 to 32 of the variable 0.
-fn ban_each(s: State) -> Banned
-    requires { Reached s }
-    ensures { Reached result.state }
+// Bans a value of the variable 0, and writes the ban's letter.
+fn ban(rt: &impl Print, state: &mut State, v: u8)
+    requires { Reached state.old }
+    ensures { Reached state.new }
 {
-    let mut state = s;
-    let mut letters = [10u8; 35];
-    let mut v: u8 = 0;
-    while v < 33 {
-        let after = decide::ban(state, 0, v);
-        let at = v as usize;
-        let answer = after.answer;
-        letters[at] = letter(answer);
-        state = after.state;
-        v += 1;
-    }
-    Banned { state, letters }
+    let after = decide::ban(*state, 0, v);
+    *state = after.state;
+    let letter = letter(after.answer);
+    let _ = print!(rt; "{letter}");
 }
 
 fn main(rt: HostRuntime) {
-    let started = setup::add_variable(setup::new(), 0xffff_ffff_ffff_ffff);
-    let banned = ban_each(started.state);
-    let back = decide::take_back(banned.state, 31);
-    let again = decide::ban(back.state, 0, 63);
-    let mut letters = banned.letters;
-    let answer = again.answer;
-    letters[33] = letter(answer);
-    let _ = rt.write_all(&letters);
+    let mut state = setup::add_variable(setup::new(), u64::MAX).state;
+    for v in 0..33 {
+        ban(&rt, &mut state, v);
+    }
+    state = decide::take_back(state, 31).state;
+    ban(&rt, &mut state, 63);
+    let _ = println!(rt);
 }

@@ -7,24 +7,24 @@ use Rattle.meaning.specs.Lists.{Largest}
 use Rattle.meaning.specs.Calls.{Call, pin, ban, take_back}
 use Rattle.meaning.specs.Histories.{Leaves}
 use Rattle.state.specs.declared.State.{State}
-use Rattle.refusals.specs.declared.Answer.{Answer}
-use Rattle.decide.specs.declared.DecisionAnswer.{DecisionAnswer}
+use Rattle.std.specs.Prelude.{Result}
+use Rattle.refusals.specs.declared.Refusal.{Refusal}
 use Rattle.blocks.specs.Blocks.{block}
 use Rattle.state.specs.Holds.{Holds, Reached, up_to}
 use Rattle.refusals.specs.Numbers.{number_of}
-use Rattle.decide.specs.Decisions.{Pins, Bans, TakesBack, decision_number}
+use Rattle.decide.specs.Decisions.{Pins, Bans, TakesBack}
 use Rattle.state.specs.Runs.{Run, start, step}
 use Rattle.state.proofs.Runs.{run_reached, run_stands, run_largest, run_depths}
 use Rattle.desk.specs.DeskRuns.{DeskRun, new, by_value, lent_pin, lent_ban, lent_take_back}
 
 -- ---- one call more, on the state lent: s at entry, t at exit, and the answer r
-pub pin_runs : {h : List Call} {s t : State} (x v : ℕ) (r : DecisionAnswer) → Run h s → Pins s x v r t → Run (pin x v ∷ h) t
-pin_runs x v r before promised = step (pin x v) (decision_number r) before promised
+pub pin_runs : {h : List Call} {s t : State} (x v : ℕ) (r : Result Unit Refusal) → Run h s → Pins s x v r t → Run (pin x v ∷ h) t
+pin_runs x v r before promised = step (pin x v) (number_of r) before promised
 
-pub ban_runs : {h : List Call} {s t : State} (x v : ℕ) (r : DecisionAnswer) → Run h s → Bans s x v r t → Run (ban x v ∷ h) t
-ban_runs x v r before promised = step (ban x v) (decision_number r) before promised
+pub ban_runs : {h : List Call} {s t : State} (x v : ℕ) (r : Result Unit Refusal) → Run h s → Bans s x v r t → Run (ban x v ∷ h) t
+ban_runs x v r before promised = step (ban x v) (number_of r) before promised
 
-pub take_back_runs : {h : List Call} {s t : State} (k : ℕ) (r : Answer) → Run h s → TakesBack s k r t → Run (take_back k ∷ h) t
+pub take_back_runs : {h : List Call} {s t : State} (k : ℕ) (r : Result Unit Refusal) → Run h s → TakesBack s k r t → Run (take_back k ∷ h) t
 take_back_runs k r before promised = step (take_back k) (number_of r) before promised
 
 -- ---- every run at the desk is a run, so all that is known of runs is known of it

@@ -1,16 +1,18 @@
 -- Lists that are closed by a rule and by all rules. Assumes nothing.
-use mathlib.Core.Path.{◌≡◌, refl, sym, ap, ◌∙◌}
+use mathlib.Core.Path.{◌≡◌, refl, sym, ◌∙◌}
 use mathlib.Core.Logic.{⊎_elim, by_cases}
 use mathlib.Core.List.Memᴰ
 use mathlib.Core.List.{List, [], ◌∷◌, Memᴰ}
 use Prim.Native.Nat.{ℕ, zero, suc, ◌<◌}
+use native.Mathlib.Nat.{le_of_suc-le-suc}
 use native.Mathlib.Decide.{ℕ_discrete}
 use native.Mathlib.Omega.{arith}
-use lib.ListN.{get_or}
+use lib.ListN.{length, get_or}
 use Rattle.meaning.specs.Rules.{Rule, scope_of, at}
 use Rattle.meaning.specs.Lists.{Left, Supported, Closed}
 use Rattle.meaning.proofs.Digits.{zero_bit, bit_cases, ext_all}
 use Rattle.meaning.proofs.Largest.{◌⊑◌, stays}
+use Rattle.filters.specs.declared.Head.{Head}
 use Rattle.filters.specs.Layout.{rule_at, rules_at}
 use Rattle.filters.specs.Filter.{Filtered, Filtering, ClosedBy, Toward, LargestIn}
 use Rattle.filters.proofs.Sweeping.{filtered_removes, changed_none, toward_start, toward_end}
@@ -51,23 +53,18 @@ closed_kept {r} L K same shut x i v h =
 
 -- ---- the rules by their numbers
 
-pub rule_in : (heads room : List ℕ) (n k : ℕ) → k < n → Memᴰ (rule_at heads room k) (rules_at heads room n)
-unfolding rules_at
-rule_in heads room zero k l = absurd (omega arith)
-rule_in heads room (suc n) k l =
-    by_cases (ℕ_discrete k n) (λ e. Memᴰ.append_right (rules_at heads room n) (Memᴰ.head (ap (rule_at heads room) e)))
-    (λ d. Memᴰ.append_left (rule_at heads room n ∷ []) (rule_in heads room n k (omega arith)))
+pub rule_in : (heads : List Head) (room : List ℕ) (k : ℕ) → k < length heads → Memᴰ (rule_at heads room k) (rules_at heads room)
+rule_in [] room k l = absurd (omega arith)
+rule_in (h ∷ heads) room zero l = Memᴰ.head refl
+rule_in (h ∷ heads) room (suc k) l = Memᴰ.tail (rule_in heads room k (le_of_suc-le-suc l))
 
-pub closed_by_all : (heads room L : List ℕ) (n : ℕ) → ((k : ℕ) → k < n → ClosedBy (rule_at heads room k) L) → Closed (rules_at heads room n) L
-unfolding rules_at
-closed_by_all heads room L zero all r m = absurd (Memᴰ.not-nil m)
-closed_by_all heads room L (suc n) all r m =
-    ⊎_elim (closed_by_all heads room L n (λ k l. all k (omega arith)) r)
-    (λ i. let e : r ≡ rule_at heads room n = Memᴰ.eq_of_singleton i in rw e (all n (omega arith)))
-    (Memᴰ.append_cases (rules_at heads room n) m)
+pub closed_by_all : (heads : List Head) (room L : List ℕ) → ((k : ℕ) → k < length heads → ClosedBy (rule_at heads room k) L) → Closed (rules_at heads room) L
+closed_by_all [] room L all r m = absurd (Memᴰ.not-nil m)
+closed_by_all (h ∷ heads) room L all r m =
+    ⊎_elim (λ e. rw e (all 0 (omega arith))) (λ i. closed_by_all heads room L (λ k l. all (suc k) (omega arith)) r i) (Memᴰ.cases_cons m)
 
-pub closed_by_each : (heads room L : List ℕ) (n : ℕ) → Closed (rules_at heads room n) L → (k : ℕ) → k < n → ClosedBy (rule_at heads room k) L
-closed_by_each heads room L n shut k l = shut (rule_at heads room k) (rule_in heads room n k l)
+pub closed_by_each : (heads : List Head) (room L : List ℕ) → Closed (rules_at heads room) L → (k : ℕ) → k < length heads → ClosedBy (rule_at heads room k) L
+closed_by_each heads room L shut k l = shut (rule_at heads room k) (rule_in heads room k l)
 
 -- ---- on the way to the largest closed lists
 
@@ -81,17 +78,17 @@ toward_filter {L} {K} m t f = record {
 -- ---- one rule more
 
 -- lists that every rule but the k-th closes, filtered by that one
-module _ (heads room : List ℕ) (rules k : ℕ) {L K : List ℕ} {c : ℕ} (known : k < rules) (others : (j : ℕ) → j < rules → ¬ (j ≡ k) → ClosedBy (rule_at heads room j) L)
+module _ (heads : List Head) (room : List ℕ) (k : ℕ) {L K : List ℕ} {c : ℕ} (known : k < length heads) (others : (j : ℕ) → j < length heads → ¬ (j ≡ k) → ClosedBy (rule_at heads room j) L)
     (f : Filtering (rule_at heads room k) L K c) where
-  toward : Toward (rules_at heads room rules) L K
-  toward = toward_filter (rule_in heads room rules k known) (toward_start (rules_at heads room rules) L) f.filtered
+  toward : Toward (rules_at heads room) L K
+  toward = toward_filter (rule_in heads room k known) (toward_start (rules_at heads room) L) f.filtered
 
   -- where nothing changes, nothing is left to do
-  pub follows_none : c ≡ 0 → LargestIn (rules_at heads room rules) L K
-  follows_none z = toward_end toward (closed_by_all heads room K rules λ j l.
+  pub follows_none : c ≡ 0 → LargestIn (rules_at heads room) L K
+  follows_none z = toward_end toward (closed_by_all heads room K λ j l.
       by_cases (ℕ_discrete j k) (λ e. rw e (filtered_closed f.filtered)) (λ d. rw (changed_none f.filtered.long (rw z at f.changed)) (others j l d)))
 
-  pub follows_some : (M : List ℕ) → LargestIn (rules_at heads room rules) K M → LargestIn (rules_at heads room rules) L M
+  pub follows_some : (M : List ℕ) → LargestIn (rules_at heads room) K M → LargestIn (rules_at heads room) L M
   follows_some M m = record {
     long = m.long ∙ toward.long;
     within = λ x v h. toward.within x v (m.within x v h);

@@ -1,60 +1,50 @@
--- A rule by its sort: what its head says, and what filtering by it asks. Assumes nothing.
-use mathlib.Core.Path.{◌≡◌, refl, ap, ◌∙◌}
+-- A table as the code takes it out of the room: its scope, and the cells of its tuples behind the scope. Assumes nothing.
+use mathlib.Core.Path.{◌≡◌, sym, ap, ap₂, ◌∙◌}
 use mathlib.Core.List.{List}
-use Prim.Native.Nat.{ℕ, zero, suc, ◌+◌, ◌*◌}
+use Prim.Native.Nat.{ℕ, ◌+◌, ◌-◌, ◌*◌, ◌≤◌, ◌<◌}
+use native.Mathlib.Nat.{mul_comm}
 use native.Mathlib.Omega.{arith}
-use lib.ListN.{length, get_or}
-use Rattle.meaning.specs.Limits.{variable_limit}
-use Rattle.filters.specs.Layout.{head, rule_by, size_by, rule_at, Placed}
-use Rattle.filters.specs.Filter.{Ready}
-use Rattle.filters.specs.Tables.{allowed_at, forbidden_at}
-use Rattle.filters.specs.Linear.{linear_at}
+use lib.ListN.{length, take, drop, length-take, length-drop}
+use Rattle.std.proofs.lemmas.List.{take_rest}
+use Rattle.meaning.specs.Rules.{allowed, forbidden}
+use Rattle.meaning.specs.Calls.{tuples_of}
+use Rattle.filters.specs.declared.Head.{Head}
+use Rattle.filters.specs.declared.Kind.{Kind}
+use Rattle.filters.specs.declared.Kind.TheVariants.{Allow, Forbid}
+use Rattle.filters.specs.Layout.{scope_at, tuples_at, rule_by, rule_under, Placed}
+use Rattle.filters.proofs.Cells.{part_long, pieces_front}
+use Rattle.filters.proofs.Laid.{scope_under, scope_inside}
 
-module _ (heads room L : List ℕ) (k : ℕ) (p : Placed heads room k) (long : length L ≡ variable_limit) where
-  sort : ℕ
-  sort = get_or heads (4 * k) 0
+-- the last cells, each a scope long, of what follows the scope
+abbrev pub cells_behind : List ℕ → ℕ → List ℕ → ℕ → List ℕ
+cells_behind room start s last = take (last * length s) (take (length room - (start + length s)) (drop (start + length s) room))
 
-  first : head heads k 0 ≡ sort
-  unfolding sort
-  first = ap (λ (i : ℕ). get_or heads i 0) {x = 4 * k + 0} {y = 4 * k} (omega arith)
+module _ (room : List ℕ) (h : Head) (p : Placed room h) (s : List ℕ) (is : s ≡ scope_at room h.start h.arity) where
+  long : length s ≡ h.arity
+  long = ap length is ∙ part_long room h.start h.arity (scope_inside p)
 
-  -- the rule and its size, at the sort s
-  rule_at_lem : (s : ℕ) → get_or heads (4 * k) 0 ≡ s → rule_at heads room k ≡ rule_by room s (head heads k 1) (head heads k 2) (head heads k 3)
-  unfolding sort
-  rule_at_lem s e = ap (λ (t : ℕ). rule_by room t (head heads k 1) (head heads k 2) (head heads k 3)) (first ∙ e)
+  some : 0 < h.arity
+  some = omega (arith, long, ap length is, ap length (scope_under room h), p.proper.some)
 
-  ready_at : (s : ℕ) → get_or heads (4 * k) 0 ≡ s
-      → Ready room (head heads k 2) (size_by s (head heads k 1) (head heads k 3)) (rule_by room s (head heads k 1) (head heads k 2) (head heads k 3)) L
-  unfolding sort
-  ready_at s e = record {
-    lists = long;
-    fits = rw (first ∙ e) at p.fits;
-    proper = rw (rule_at_lem s e) at p.proper;
-  }
+  cells_make : h.start + (h.arity + h.arity * h.last) ≤ length room → tuples_of s (cells_behind room h.start s h.last) ≡ tuples_at room h.start h.arity h.last
+  cells_make fits =
+      rw (take_rest room (h.start + length s), long)
+      (pieces_front h.last h.arity (drop (h.start + h.arity) room) some (omega (arith, length-drop (h.start + h.arity) room, mul_comm h.last h.arity)))
 
-  pub is_allowed : get_or heads (4 * k) 0 ≡ 0 → rule_at heads room k ≡ allowed_at room (head heads k 2) (head heads k 1) (head heads k 3)
-  is_allowed e = rule_at_lem 0 e
+  kind_is : (kind : Kind) → h.kind ≡ kind → rule_by room kind h.arity h.start h.last ≡ rule_under room h
+  kind_is kind e = sym (ap (λ (k : Kind). rule_by room k h.arity h.start h.last) e)
 
-  pub ready_allowed : get_or heads (4 * k) 0 ≡ 0
-      → Ready room (head heads k 2) (head heads k 1 + head heads k 1 * head heads k 3) (allowed_at room (head heads k 2) (head heads k 1) (head heads k 3)) L
-  ready_allowed e = ready_at 0 e
+  pub is_allowed : h.kind ≡ Allow → allowed s (tuples_of s (cells_behind room h.start s h.last)) ≡ rule_under room h
+  is_allowed e = ap₂ allowed is (cells_make (rw e at p.fits)) ∙ kind_is Allow e
 
-  pub is_forbidden : get_or heads (4 * k) 0 ≡ 1 → rule_at heads room k ≡ forbidden_at room (head heads k 2) (head heads k 1) (head heads k 3)
-  is_forbidden e = rule_at_lem 1 e
+  pub is_forbidden : h.kind ≡ Forbid → forbidden s (tuples_of s (cells_behind room h.start s h.last)) ≡ rule_under room h
+  is_forbidden e = ap₂ forbidden is (cells_make (rw e at p.fits)) ∙ kind_is Forbid e
 
-  pub ready_forbidden : get_or heads (4 * k) 0 ≡ 1
-      → Ready room (head heads k 2) (head heads k 1 + head heads k 1 * head heads k 3) (forbidden_at room (head heads k 2) (head heads k 1) (head heads k 3)) L
-  ready_forbidden e = ready_at 1 e
-
-  -- any other sort is linear
-  module _ (not_allowed : ¬ (get_or heads (4 * k) 0 ≡ 0)) (not_forbidden : ¬ (get_or heads (4 * k) 0 ≡ 1)) where
-    above : (n : ℕ) → ¬ (n ≡ 0) → ¬ (n ≡ 1) → (m : ℕ) × (n ≡ suc (suc m))
-    above zero a b = absurd (a refl)
-    above (suc zero) a b = absurd (b refl)
-    above (suc (suc m)) a b = (m, refl)
-
-    pub is_linear : rule_at heads room k ≡ linear_at room (head heads k 2) (head heads k 1) (head heads k 3)
-    is_linear = let (m, e) = above (get_or heads (4 * k) 0) not_allowed not_forbidden in rule_at_lem (suc (suc m)) e
-
-    pub ready_linear : Ready room (head heads k 2) (2 * head heads k 1 + 1) (linear_at room (head heads k 2) (head heads k 1) (head heads k 3)) L
-    ready_linear = let (m, e) = above (get_or heads (4 * k) 0) not_allowed not_forbidden in ready_at (suc (suc m)) e
+-- they are within the room
+pub cells_fit : (room : List ℕ) (start : ℕ) (s : List ℕ) (last : ℕ) → length (cells_behind room start s last) ≤ length room
+cells_fit room start s last =
+    omega (
+      arith,
+      length-take (last * length s) (take (length room - (start + length s)) (drop (start + length s) room)),
+      length-take (length room - (start + length s)) (drop (start + length s) room),
+    )

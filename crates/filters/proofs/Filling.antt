@@ -1,5 +1,5 @@
 -- A list filled from the front, one store a turn. Assumes nothing.
-use mathlib.Core.Path.{◌≡◌, refl, ap, ◌∙◌}
+use mathlib.Core.Path.{◌≡◌, ap, ◌∙◌}
 use mathlib.Core.Logic.{by_cases}
 use mathlib.Core.List.{List}
 use Prim.Native.Nat.{ℕ, ◌+◌, ◌≤◌, ◌<◌}
@@ -22,9 +22,6 @@ pub record Mapped (f : ℕ → ℕ → ℕ) (O : List ℕ) (n : ℕ) (M : List �
   pub left : (j : ℕ) → n ≤ j → get_or M j 0 ≡ get_or O j 0
 
 module _ (f : ℕ → ℕ → ℕ) (O : List ℕ) where
-  pub mapped_none : Mapped f O 0 O
-  mapped_none = record { long = refl; done = λ j h. absurd (omega arith); left = λ j h. refl }
-
   pub mapped_more : (n : ℕ) (M : List ℕ) → n < length M → Mapped f O n M → Mapped f O (n + 1) (set M n (f n (get_or M n 0)))
   mapped_more n M h m = record {
     long = length-set M n (f n (get_or M n 0)) ∙ m.long;

@@ -4,20 +4,19 @@ use mathlib.Core.Path.{◌≡◌, refl, sym, ap, ap₂, ◌∙◌}
 use mathlib.Core.Logic.{by_cases}
 use mathlib.Core.Bool.{Bool, true, false, ◌&&◌, and-false}
 use mathlib.Core.List.{List, [], ◌∷◌, head-eq_of_cons-eq, tail-eq_of_cons-eq}
-use Prim.Native.Nat.{ℕ, zero, suc, ◌+◌, ◌*◌, ◌≤◌, ◌<◌}
+use Prim.Native.Nat.{ℕ, zero, suc, ◌*◌, ◌<◌}
 use native.Mathlib.Decide.{dec_lt}
 use native.Mathlib.Omega.{arith}
 use lib.Dec.{eqb}
 use borrow.Author.Tests.{eq-eqb, ne_eqb}
-use lib.ListN.{length, get_or, take, drop, length-append, length-map, get_or-append}
-use lib.Seq.{ext_get_or, get_or_at}
+use lib.ListN.{length, get_or, take, length-append, length-map, get_or-append}
+use lib.Seq.{ext_get_or, get_or_at, get_or-take}
 use Rattle.meaning.specs.Values.{bit, size, Has, Lacks}
 use Rattle.meaning.specs.Rules.{at, values_at}
 use Rattle.meaning.proofs.Counting.{count_ext}
 use Rattle.meaning.proofs.Listed.{has, live, live_with, product, product_but}
 use Rattle.meaning.proofs.Assignments.{values_at_lem}
 use Rattle.filters.specs.Tables.{Gathered, places}
-use Rattle.filters.proofs.Cells.{part_at, part_long}
 
 -- ---- the places
 
@@ -87,15 +86,19 @@ live_no L (x ∷ s) [] j h e = refl
 live_no L (x ∷ s) (v ∷ t) zero h e = rw (ne_eqb (bit (get_or L x 0) v) 1 (λ q. omega arith)) refl
 live_no L (x ∷ s) (v ∷ t) (suc j) h e = rw (live_no L s t j (omega arith) e) (and-false (has (get_or L x 0) v))
 
--- each of the first n values from a place of the room on is in its mask
-abbrev pub In : List ℕ → List ℕ → ℕ → ℕ → Type 0
-In room masks at n = (j : ℕ) → j < n → Has (get_or masks j 0) (get_or room (at + j) 0)
+-- each of the first n values of a tuple is in its mask
+abbrev pub In : List ℕ → List ℕ → ℕ → Type 0
+In masks t n = (j : ℕ) → j < n → Has (get_or masks j 0) (get_or t j 0)
 
-module _ (room masks : List ℕ) (at n : ℕ) where
-  pub tuple_live : at + n ≤ length room → In room masks at n → live masks (places n) (take n (drop at room)) ≡ true
-  tuple_live fits f =
-      live_yes masks (places n) (take n (drop at room)) (places_long n ∙ sym (part_long room at n fits)) λ j h.
-      let l : j < n = omega (arith, places_long n) in rw (places_at n j l, part_at room at n j l) (f j l)
+module _ (masks t : List ℕ) (n : ℕ) where
+  pub tuple_live : length t ≡ n → In masks t n → live masks (places n) t ≡ true
+  tuple_live long f =
+      live_yes masks (places n) t (places_long n ∙ sym long) λ j h.
+      let l : j < n = omega (arith, places_long n) in rw (places_at n j l) (f j l)
 
-  pub tuple_dead : (j : ℕ) → j < n → Lacks (get_or masks j 0) (get_or room (at + j) 0) → live masks (places n) (take n (drop at room)) ≡ false
-  tuple_dead j h e = live_no masks (places n) (take n (drop at room)) j (omega (arith, places_long n)) (rw (places_at n j h, part_at room at n j h) e)
+  pub tuple_dead : (j : ℕ) → j < n → Lacks (get_or masks j 0) (get_or t j 0) → live masks (places n) t ≡ false
+  tuple_dead j h e = live_no masks (places n) t j (omega (arith, places_long n)) (rw (places_at n j h) e)
+
+-- as many masks as there are variables
+pub gathered_front : (L s masks : List ℕ) → Gathered L s (length s) masks → Gathered L s (length s) (take (length s) masks)
+gathered_front L s masks g j h = get_or-take (length s) masks j 0 h ∙ g j h

@@ -11,7 +11,8 @@ use Rattle.meaning.specs.Limits.{coefficient_limit, bound_limit}
 use Rattle.meaning.specs.Rules.{Rule, allowed, forbidden, linear, scope_of, room}
 use Rattle.meaning.specs.Calls.{rows, held}
 use Rattle.meaning.specs.Proper.{Around, ProperRule}
-use Rattle.filters.specs.Layout.{shift, unshift, scope_at, tuples_at, coefficients_at, rule_by, size_by, sort_of, last_of, joined, numbers_of, head_of, heads_of, room_of}
+use Rattle.filters.specs.declared.Head.{Head}
+use Rattle.filters.specs.Layout.{shift, unshift, scope_at, tuples_at, coefficients_at, rule_by, size_by, kind_of, last_of, joined, numbers_of, head_of, heads_of, room_of}
 use Rattle.filters.proofs.Shifts.{unshift_shift, unshift_all}
 
 -- ---- tuples one after the other
@@ -66,7 +67,7 @@ length_behind (linear s cs b) p =
 pub length_numbers_of : {n : ℕ} (r : Rule) → ProperRule n r → length (numbers_of r) ≡ room r
 length_numbers_of r p = ap length (numbers_split r) ∙ length-append (scope_of r) (behind_scope r) ∙ length_behind r p
 
-pub size_room : (r : Rule) → size_by (sort_of r) (length (scope_of r)) (last_of r) ≡ room r
+pub size_room : (r : Rule) → size_by (kind_of r) (length (scope_of r)) (last_of r) ≡ room r
 size_room (allowed s ts) = refl
 size_room (forbidden s ts) = refl
 size_room (linear s cs b) = refl
@@ -93,7 +94,7 @@ module _ (cells : List ℕ) (start : ℕ) (rest : List ℕ) where
       ∙ unshift_all coefficient_limit cs h
 
   by_parts : {n : ℕ} (r : Rule) → ProperRule n r → drop start cells ≡ (scope_of r ++ behind_scope r) ++ rest
-      → rule_by cells (sort_of r) (length (scope_of r)) start (last_of r) ≡ r
+      → rule_by cells (kind_of r) (length (scope_of r)) start (last_of r) ≡ r
   by_parts (allowed s ts) p e = ap₂ allowed (scope_read s (joined ts) e) (tuples_read s ts p.parts.long e)
   by_parts (forbidden s ts) p e = ap₂ forbidden (scope_read s (joined ts) e) (tuples_read s ts p.parts.long e)
   by_parts (linear s cs b) p e =
@@ -103,15 +104,15 @@ module _ (cells : List ℕ) (start : ℕ) (rest : List ℕ) where
       cc
 
   pub rule_read : {n : ℕ} (r : Rule) → ProperRule n r → drop start cells ≡ numbers_of r ++ rest
-      → rule_by cells (sort_of r) (length (scope_of r)) start (last_of r) ≡ r
+      → rule_by cells (kind_of r) (length (scope_of r)) start (last_of r) ≡ r
   rule_read r p e = by_parts r p (e ∙ ap (λ (l : List ℕ). l ++ rest) (numbers_split r))
 
 -- ---- rules one after the other
 
-pub length_heads_of : (start : ℕ) (rs : List Rule) → length (heads_of start rs) ≡ 4 * length rs
+pub length_heads_of : (start : ℕ) (rs : List Rule) → length (heads_of start rs) ≡ length rs
 unfolding heads_of
 length_heads_of start [] = refl
-length_heads_of start (r ∷ rs) = omega (arith, length_heads_of (start + room r) rs)
+length_heads_of start (r ∷ rs) = ap suc (length_heads_of (start + room r) rs)
 
 -- every rule is proper
 abbrev pub AllProper : ℕ → List Rule → Type 0
@@ -127,7 +128,7 @@ pub heads_of_append : (start : ℕ) (ps qs : List Rule) → heads_of start (ps +
 unfolding heads_of held
 heads_of_append start [] qs = ap (λ (k : ℕ). heads_of k qs) (sym (add-zero start))
 heads_of_append start (p ∷ ps) qs =
-    ap (λ (l : List ℕ). head_of start p ++ l) (heads_of_append (start + room p) ps qs ∙ ap (λ (k : ℕ). heads_of (start + room p) ps ++ heads_of k qs) (add_assoc start (room p) (held ps)))
+    ap (λ (l : List Head). head_of start p ∷ l) (heads_of_append (start + room p) ps qs ∙ ap (λ (k : ℕ). heads_of (start + room p) ps ++ heads_of k qs) (add_assoc start (room p) (held ps)))
 
 pub room_of_append : (ps qs : List Rule) → room_of (ps ++ qs) ≡ room_of ps ++ room_of qs
 unfolding room_of
@@ -139,7 +140,7 @@ unfolding held
 held_append [] qs = omega arith
 held_append (p ∷ ps) qs = omega (arith, held_append ps qs)
 
-pub heads_of_more : (start : ℕ) (rs : List Rule) (r : Rule) → heads_of start (rs ++ (r ∷ [])) ≡ heads_of start rs ++ head_of (start + held rs) r
+pub heads_of_more : (start : ℕ) (rs : List Rule) (r : Rule) → heads_of start (rs ++ (r ∷ [])) ≡ heads_of start rs ++ (head_of (start + held rs) r ∷ [])
 unfolding heads_of
 heads_of_more start rs r = heads_of_append start rs (r ∷ [])
 

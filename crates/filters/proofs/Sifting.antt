@@ -1,6 +1,6 @@
 -- Lists sifted place by place: one variable's list narrowed, the places of a scope in turn, and what is filtered in the end.
 -- Assumes nothing.
-use mathlib.Core.Path.{◌≡◌, refl, sym, ◌∙◌}
+use mathlib.Core.Path.{◌≡◌, refl, sym, ap, ◌∙◌}
 use mathlib.Core.Logic.{◌⊎◌, inl, inr, ⊎_elim, ◌↔◌, by_cases}
 use mathlib.Core.List.Memᴰ
 use mathlib.Core.List.{List, [], ◌∷◌, Memᴰ}
@@ -10,16 +10,17 @@ use native.Mathlib.Decide.{ℕ_discrete}
 use native.Mathlib.Omega.{arith}
 use borrow.Author.Count.{below_more}
 use lib.Bits.{bit_or}
-use lib.ListN.{length, get_or}
-use Rattle.meaning.specs.Values.{Has, Lacks}
+use lib.ListN.{length, get_or, replicate}
+use Rattle.meaning.specs.Values.{bit, Has, Lacks}
 use Rattle.meaning.specs.Rules.{Rule, scope_of}
 use Rattle.meaning.specs.Lists.{Left, Supported}
 use Rattle.meaning.specs.Proper.{Distinct}
 use Rattle.meaning.proofs.Digits.{bit_lt, bit_of_or, zero_bit, bit_cases}
 use Rattle.meaning.proofs.Sets.{or_iff}
 use Rattle.blocks.specs.Keeping.{Changed, Kept}
-use Rattle.filters.specs.Filter.{Filtered, Filtering}
-use Rattle.filters.specs.Sifting.{Narrowed, Sifted}
+use Rattle.blocks.proofs.Copying.{zeros_at}
+use Rattle.filters.specs.Filter.{Filtered, Filtering, Ready}
+use Rattle.filters.specs.Sifting.{Known, Narrowed, Sifted}
 
 -- ---- the places of a scope
 
@@ -96,6 +97,15 @@ sifted_none s P L = record {
   changed = same_changed L;
 }
 
+-- where each place keeps all that its list has
+pub all_sifted : (s : List ℕ) (n : ℕ) (P : ℕ → ℕ → Type 0) (L : List ℕ) → ((j : ℕ) → j < n → (v : ℕ) → Left L (get_or s j 0) v → P j v) → Sifted s n P L L 0
+all_sifted s n P L f = record {
+  long = refl;
+  passed = λ j h v. (λ l. (l, f j h v l), λ l. l.0);
+  rest = λ x h. refl;
+  changed = same_changed L;
+}
+
 module _ (s : List ℕ) (P : ℕ → ℕ → Type 0) (once : Distinct s) (i : ℕ) (inside : i < length s) {L K : List ℕ} {c : ℕ} (so : Sifted s i P L K c) where
   -- the list of the variable whose turn it is has not been touched
   pub in_turn : get_or K (get_or s i 0) 0 ≡ get_or L (get_or s i 0) 0
@@ -136,6 +146,24 @@ module _ (s : List ℕ) (P : ℕ → ℕ → Type 0) (once : Distinct s) (i : �
       changed = changed_now;
     }
 
+-- a turn by a mask
+pub masked_more : (s masks : List ℕ) → Distinct s → (i : ℕ) → i < length s → {L K M : List ℕ} {c e : ℕ} → Sifted s i (λ j v. Has (get_or masks j 0) v) L K c
+    → Kept K (get_or s i 0) (get_or masks i 0) M e → Sifted s (i + 1) (λ j v. Has (get_or masks j 0) v) L M (bit_or c e)
+masked_more s masks once i inside so k =
+    sifted_more s (λ j v. Has (get_or masks j 0) v) once i inside so (kept_narrowed (λ v. Has (get_or masks i 0) v) k (λ v h. (λ b. b, λ b. b)))
+
+-- by masks that are empty
+pub nothing_sifted : (s : List ℕ) (n : ℕ) {L K : List ℕ} {c : ℕ} → Sifted s (length s) (λ j v. Has (get_or (replicate n 0) j 0) v) L K c → Sifted s (length s) (λ j v. ⊥) L K c
+nothing_sifted s n so = record {
+  long = so.long;
+  passed = λ j h v. (λ k. let w = (so.passed j h v).0 k in (w.0, none j v w.1), λ w. absurd w.1);
+  rest = so.rest;
+  changed = so.changed;
+}
+  where
+    none : (j v : ℕ) → ¬ Has (get_or (replicate n 0) j 0) v
+    none j v h = let z = ap (λ (m : ℕ). bit m v) (zeros_at n j) in omega (arith, zero_bit v)
+
 -- ---- all places, by what has support
 
 module _ (r : Rule) (P : ℕ → ℕ → Type 0) (L K : List ℕ) (c n : ℕ) (whole : length (scope_of r) ≡ n) (so : Sifted (scope_of r) n P L K c)
@@ -163,3 +191,8 @@ module _ (r : Rule) (P : ℕ → ℕ → Type 0) (L K : List ℕ) (c n : ℕ) (w
 
   pub sifted_filtering : Filtering r L K c
   sifted_filtering = record { filtered = sifted_filtered; changed = so.changed }
+
+-- ---- a rule that is ready
+
+pub ready_known : {L : List ℕ} {r : Rule} → Ready r L → Known (scope_of r) L
+ready_known h = record { lists = h.lists; known = h.proper.known; once = h.proper.once }

@@ -1,8 +1,9 @@
 -- What the slack of a linear rule says of support: the values within it of their term's least have support, and no others.
 -- Assumes nothing.
-use mathlib.Core.Path.{◌≡◌, ap, ◌∙◌}
+use mathlib.Core.Path.{◌≡◌, sym, ap, ◌∙◌}
 use mathlib.Core.Logic.{◌↔◌}
-use mathlib.Core.Bool.{true, false, true≢false, false≢true}
+use Rattle.std.specs.Prelude.{Option, Some, None}
+use Rattle.std.specs.Option.{SomeIff}
 use mathlib.Core.List.{List, map, Memᴰ}
 use Prim.Native.Nat.{ℕ, ◌+◌, ◌-◌, ◌*◌, ◌≤◌, ◌<◌}
 use native.Mathlib.Omega.{arith}
@@ -11,28 +12,31 @@ use lib.ListN.{length, get_or, drop, length-map, drop_of_length-le}
 use lib.Signed.{◌≤ℤ◌}
 use Rattle.meaning.specs.Limits.{coefficient_limit, bound_limit}
 use Rattle.meaning.specs.Values.{bit, Has}
-use Rattle.meaning.specs.Rules.{Rule, linear, sum}
+use Rattle.meaning.specs.Rules.{Rule, sum}
 use Rattle.meaning.specs.Lists.{Left, Supported}
 use Rattle.meaning.specs.Proper.{Distinct}
 use Rattle.meaning.proofs.Digits.{zero_bit}
 use Rattle.meaning.proofs.Whole.{up, dn, le_in, le_out, sum_parts}
 use Rattle.meaning.proofs.Linear.{sum_but, sum_but_lem, linear_support}
 use Rattle.meaning.proofs.Listed.{Words}
-use Rattle.filters.specs.Layout.{unshift, scope_at}
+use Rattle.filters.specs.Layout.{unshift}
 use Rattle.filters.specs.Filter.{Ready}
-use Rattle.filters.specs.Linear.{linear_at, kept_at, rise, fall, NearAt, Leaves}
+use Rattle.filters.specs.Linear.{linear_of, rise, fall, NearAt, Leaves}
 use Rattle.filters.proofs.Sifting.{at_mem, mem_at}
 use Rattle.filters.proofs.Terms.{unshift_parts, at_map, term_up, term_dn, least_at, least_has, least_term, leasts, leasts_at, leasts_length, leasts_sum, leasts_least, weighed}
-use Rattle.filters.proofs.LinearRoom.{ready_length, ready_long}
 use Rattle.filters.proofs.Summing.{Summed}
+
+-- there are as many coefficients as variables
+pub kept_long : (s ks L : List ℕ) (bound : ℕ) → Ready (linear_of s ks bound) L → length s ≡ length ks
+kept_long s ks L bound ready = sym ready.proper.parts.long ∙ length-map ks (unshift coefficient_limit)
 
 module _ (L s ks : List ℕ) (bound : ℕ) where
   abbrev rule : Rule
-  rule = linear s (map (unshift coefficient_limit) ks) (unshift bound_limit bound)
+  rule = linear_of s ks bound
 
   -- nothing has support beside an empty list
-  pub empty_leaves : (x : ℕ) → Memᴰ x s → get_or L x 0 ≡ 0 → Leaves rule ks L false 0
-  empty_leaves x m e = record { none = λ q. none; some = λ q. absurd (false≢true q) }
+  pub empty_leaves : (x : ℕ) → Memᴰ x s → get_or L x 0 ≡ 0 → Leaves rule ks L None
+  empty_leaves x m e = record { none = λ q. none; some = λ n q. (cc) }
     where
       lacks : (v : ℕ) → ¬ Left L x v
       lacks v h = let z = ap (λ (n : ℕ). bit n v) e ∙ zero_bit v in omega arith
@@ -111,39 +115,36 @@ module _ (L s ks : List ℕ) (bound : ℕ) where
     past_none above below p q l h =
         omega (arith, support_iff.0 h, least_term k (get_or L (get_or s j 0) 0) (fit (get_or s j 0)) (some (get_or s j 0) (at_mem s j inside)) v left)
 
--- once every term in the room is summed
-module _ (room : List ℕ) (start arity bound : ℕ) (L : List ℕ) (ready : Ready room start (2 * arity + 1) (linear_at room start arity bound) L)
-    (fit : Words L) (i above below : ℕ) (so : Summed L (scope_at room start arity) (kept_at room start arity) bound i above below) (end : arity ≤ i) where
-  abbrev scope : List ℕ
-  scope = scope_at room start arity
-
-  abbrev kept : List ℕ
-  kept = kept_at room start arity
-
-  scope_length : length scope ≡ arity
-  scope_length = ready_length room L start arity bound ready
-
-  nothing_left : (f : ℕ → ℕ) → weighed f L (drop i scope) (drop i kept) ≡ 0
+-- once every term is summed
+module _ (s ks : List ℕ) (bound : ℕ) (L : List ℕ) (ready : Ready (linear_of s ks bound) L) (fit : Words L)
+    (i above below : ℕ) (so : Summed L s ks bound i above below) (end : length s ≤ i) where
+  nothing_left : (f : ℕ → ℕ) → weighed f L (drop i s) (drop i ks) ≡ 0
   unfolding weighed
-  nothing_left f = rw (drop_of_length-le scope {i = i} (omega (arith, scope_length)))
+  nothing_left f = rw (drop_of_length-le s {i = i} end)
 
-  all_rising : above ≡ bound_limit + weighed rise L scope kept
+  all_rising : above ≡ bound_limit + weighed rise L s ks
   all_rising = omega (arith, so.rising, nothing_left rise)
 
-  all_falling : below ≡ bound + weighed fall L scope kept
+  all_falling : below ≡ bound + weighed fall L s ks
   all_falling = omega (arith, so.falling, nothing_left fall)
 
-  all_some : (x : ℕ) → Memᴰ x scope → 0 < get_or L x 0
-  all_some x m = let (j, l, e) = mem_at scope x m in rw e (so.some j (omega (arith, scope_length)))
+  all_some : (x : ℕ) → Memᴰ x s → 0 < get_or L x 0
+  all_some x m = let (j, l, e) = mem_at s x m in rw e (so.some j (omega arith))
 
-  pub slack_leaves : above ≤ below → Leaves (linear_at room start arity bound) kept L true (below - above)
+  slack_leaves : above ≤ below → Leaves (linear_of s ks bound) ks L (Some (below - above))
   slack_leaves l = record {
-    none = λ q. absurd (true≢false q);
-    some = λ q j v inside left. near_iff L scope kept bound fit ready.proper.once (ready_long room L start arity bound ready) all_some j v inside left above below all_rising all_falling l;
+    none = λ q. (cc);
+    some = λ n q j v inside left.
+        let e : below - above ≡ n = (cc) in
+        rw e at (near_iff L s ks bound fit ready.proper.once (kept_long s ks L bound ready) all_some j v inside left above below all_rising all_falling l);
   }
 
-  pub past_leaves : below < above → Leaves (linear_at room start arity bound) kept L false 0
+  past_leaves : below < above → Leaves (linear_of s ks bound) ks L None
   past_leaves l = record {
-    none = λ q j v inside left. past_none L scope kept bound fit ready.proper.once (ready_long room L start arity bound ready) all_some j v inside left above below all_rising all_falling l;
-    some = λ q. absurd (false≢true q);
+    none = λ q j v inside left. past_none L s ks bound fit ready.proper.once (kept_long s ks L bound ready) all_some j v inside left above below all_rising all_falling l;
+    some = λ n q. (cc);
   }
+
+  pub summed_leaves : (slack : Option ℕ) → SomeIff slack (above ≤ below) (below - above) → Leaves (linear_of s ks bound) ks L slack
+  summed_leaves None past = past_leaves (omega arith)
+  summed_leaves (Some n) (l, e) = rw e (slack_leaves l)

@@ -1,4 +1,4 @@
--- The least sum of a linear rule, summed place by place as the room has its terms. Assumes nothing.
+-- The least sum of a linear rule, summed place by place. Assumes nothing.
 use mathlib.Core.Path.{◌≡◌, refl, ◌∙◌}
 use mathlib.Core.List.{List}
 use Prim.Native.Nat.{ℕ, ◌+◌, ◌-◌, ◌*◌, ◌^◌, ◌≤◌, ◌<◌}
@@ -11,12 +11,9 @@ use lib.Seq.{drop-cons}
 use Rattle.meaning.specs.Limits.{coefficient_limit, bound_limit}
 use Rattle.meaning.proofs.Listed.{Words}
 use Rattle.values.specs.Sets.{Lowest, Highest}
-use Rattle.filters.specs.Layout.{scope_at}
-use Rattle.filters.specs.Filter.{Ready}
-use Rattle.filters.specs.Linear.{linear_at, kept_at, rise, fall}
+use Rattle.filters.specs.Linear.{rise, fall}
 use Rattle.filters.proofs.Nearness.{nothing}
 use Rattle.filters.proofs.Terms.{least_at, least_low, least_high, weighed}
-use Rattle.filters.proofs.Turns.{part_at, part_length}
 
 -- above and below are what 0 and the bound are kept as, with what the first i terms add to either; no list passed is empty
 pub record Summed (L s ks : List ℕ) (bound i above below : ℕ) : Type 0 where
@@ -40,30 +37,20 @@ weighed_next : (f : ℕ → ℕ) (L s ks : List ℕ) (i : ℕ) → i < length s 
 unfolding weighed
 weighed_next f L s ks i h g = rw (add-one, drop-cons s i 0 h, drop-cons ks i 0 g)
 
--- the turn of a term in the room, whose list has a value
-module _ (room : List ℕ) (start arity bound : ℕ) (L : List ℕ) (ready : Ready room start (2 * arity + 1) (linear_at room start arity bound) L)
-    (short : (j : ℕ) → get_or room j 0 < 2 ^ 16) (fit : Words L) (i above below : ℕ) (l : i < arity)
-    (so : Summed L (scope_at room start arity) (kept_at room start arity) bound i above below) (one : ¬ (get_or L (get_or room (start + i) 0) 0 ≡ 0)) (w : ℕ) where
-  abbrev s : List ℕ
-  s = scope_at room start arity
-
-  abbrev ks : List ℕ
-  ks = kept_at room start arity
-
+-- the turn of a term, whose list has a value
+module _ (L s ks : List ℕ) (bound : ℕ) (short : (j : ℕ) → get_or ks j 0 < 2 ^ 16) (fit : Words L) (i above below : ℕ) (l : i < length s) (m : i < length ks)
+    (so : Summed L s ks bound i above below) (one : ¬ (get_or L (get_or s i 0) 0 ≡ 0)) (w : ℕ) where
   abbrev x : ℕ
-  x = get_or room (start + i) 0
+  x = get_or s i 0
 
   abbrev k : ℕ
-  k = get_or room (start + arity + i) 0
+  k = get_or ks i 0
 
   next : (f : ℕ → ℕ) → least_at k (get_or L x 0) ≡ w → weighed f L (drop i s) (drop i ks) ≡ f k * w + weighed f L (drop (i + 1) s) (drop (i + 1) ks)
-  next f e =
-      let r = ready.fits in
-      weighed_next f L s ks i (omega (arith, part_length room start arity (omega arith))) (omega (arith, part_length room (start + arity) arity (omega arith)))
-      ∙ rw (part_at room (start + arity) arity i l, part_at room start arity i l, e)
+  next f e = weighed_next f L s ks i l m ∙ (rw e refl)
 
   some_next : (j : ℕ) → j < i + 1 → 0 < get_or L (get_or s j 0) 0
-  some_next = below_more (λ j. 0 < get_or L (get_or s j 0) 0) i so.some (rw (part_at room start arity i l) (omega arith))
+  some_next = below_more (λ j. 0 < get_or L (get_or s j 0) 0) i so.some (omega arith)
 
   -- a term with a negative coefficient, at its highest value
   pub summed_high : k < coefficient_limit → Highest (get_or L x 0) w → Summed L s ks bound (i + 1) above (below + (coefficient_limit - k) * w)
@@ -86,7 +73,7 @@ module _ (room : List ℕ) (start arity bound : ℕ) (L : List ℕ) (ready : Rea
       record {
         rising = omega (arith, so.rising, next rise e);
         falling = omega (arith, so.falling, next fall e);
-        above_small = omega (arith, so.above_small, mul-le-mul {n₁ = k - coefficient_limit} {n₂ = 65536} (omega (arith, short (start + arity + i))) low.small);
+        above_small = omega (arith, so.above_small, mul-le-mul {n₁ = k - coefficient_limit} {n₂ = 65536} (omega (arith, short i)) low.small);
         below_small = omega (arith, so.below_small);
         some = some_next;
       }

@@ -1,7 +1,7 @@
 -- Filtering by a table: what a pass over its tuples finds are just the values with support. Assumes nothing.
-use mathlib.Core.Path.{◌≡◌, ap}
+use mathlib.Core.Path.{◌≡◌, refl, sym, ap, ◌∙◌}
 use mathlib.Core.Logic.{◌↔◌, by_cases}
-use mathlib.Core.Bool.{◌&&◌}
+use mathlib.Core.Bool.{true, true≢false, ◌&&◌}
 use mathlib.Core.List.{List, Memᴰ}
 use Prim.Native.Nat.{ℕ, ◌<◌}
 use native.Mathlib.Decide.{dec_lt}
@@ -9,6 +9,9 @@ use native.Mathlib.Omega.{arith}
 use borrow.Author.Tests.{lt-ltb, le-ltb}
 use lib.Dec.{T, eqb, ltb, eqb→eq}
 use lib.ListN.{length, get_or}
+use Rattle.std.specs.List.{list_all, range_with_len}
+use Rattle.std.proofs.lemmas.List.Folds.{list_all_at}
+use Rattle.std.proofs.lemmas.List.FromFn.{length-range_with_len, get_or-range_with_len}
 use Rattle.meaning.specs.Values.{Has}
 use Rattle.meaning.specs.Rules.{allowed, forbidden}
 use Rattle.meaning.specs.Lists.{Left, Supported}
@@ -16,12 +19,13 @@ use Rattle.meaning.specs.Proper.{Distinct}
 use Rattle.meaning.proofs.Tests.{and_left, and_right, and_both, eq-eqb}
 use Rattle.meaning.proofs.Digits.{has_small}
 use Rattle.meaning.proofs.Counting.{one, one_le, count_some, count_le}
-use Rattle.meaning.proofs.Listed.{live, live_with, Words}
+use Rattle.meaning.proofs.Listed.{live, live_with, product_but, Words}
 use Rattle.meaning.proofs.Tables.{allowed_support, forbidden_support}
 use Rattle.filters.specs.Filter.{Filtering}
-use Rattle.filters.specs.Tables.{Gathered, Narrowed, Marked, Counted, Products, Fewer, cell, places}
+use Rattle.filters.specs.Sifting.{Sifted}
+use Rattle.filters.specs.Tables.{Gathered, Marked, Counted, Fewer, cell, places}
 use Rattle.filters.proofs.Places.{live_with_places, product_but_places}
-use Rattle.filters.proofs.Narrowing.{narrowed_nothing, narrowed_filtering}
+use Rattle.filters.proofs.Sifting.{all_sifted, sifted_filtering}
 
 -- some live tuple has v at place j just if their number is above 0
 live_some : (L s : List ℕ) (j v : ℕ) (ts : List (List ℕ))
@@ -42,48 +46,56 @@ counts_one : (a b : ℕ) → (one (ltb a b) ≡ 1) ↔ (a < b)
 counts_one a b =
     by_cases (dec_lt a b) (λ h. (λ e. h, λ k. ap one (lt-ltb a b h))) (λ d. (λ e. absurd (let z = ap one (le-ltb a b (omega arith)) in omega arith), λ k. absurd (d k)))
 
-module _ (L s masks : List ℕ) (n : ℕ) (long : length s ≡ n) (gathered : Gathered L s n masks) (once : Distinct s) (ts : List (List ℕ)) where
+-- a number that is below each of n numbers
+pub all_above : (k n : ℕ) (f : ℕ → ℕ) → list_all (λ j. ltb k (f j)) (range_with_len 0 n) ≡ true → (j : ℕ) → j < n → k < f j
+all_above k n f e j h =
+    by_cases (dec_lt k (f j)) (λ l. l) λ d.
+    let at : get_or (range_with_len 0 n) j 0 ≡ j = omega (arith, get_or-range_with_len 0 n j 0 h) in
+    absurd (true≢false (sym e ∙ list_all_at (λ j. ltb k (f j)) (range_with_len 0 n) j 0 (omega (arith, length-range_with_len 0 n)) (rw at (le-ltb k (f j) (omega arith)))))
+
+module _ (L s masks : List ℕ) (gathered : Gathered L s (length s) masks) (once : Distinct s) (ts : List (List ℕ)) where
   -- ---- allowed
 
-  pub allowed_filtering : (marked K : List ℕ) (c : ℕ) → Marked masks n ts marked → Narrowed L s n marked K c → Filtering (allowed s ts) L K c
-  allowed_filtering marked K c marks narrowed =
-      narrowed_filtering (allowed s ts) L marked K c (rw long narrowed) λ j h v left.
+  pub allowed_filtering : (marked K : List ℕ) (c : ℕ) → Marked masks (length s) ts marked → Sifted s (length s) (λ j v. Has (get_or marked j 0) v) L K c
+      → Filtering (allowed s ts) L K c
+  allowed_filtering marked K c marks sifted =
+      sifted_filtering (allowed s ts) (λ j v. Has (get_or marked j 0) v) L K c (length s) refl sifted λ j v h left.
       let by = allowed_support L s once j h v left ts in
       let some = live_some L s j v ts in
-      let same = live_with_places L s masks n long gathered j v ts in
-      let mark = marks j (omega arith) v in
-      (λ b. by.1 (some.1 (omega arith)), λ w. let k = some.0 (by.0 w) in omega arith)
+      let same = live_with_places L s masks (length s) refl gathered j v ts in
+      let mark = marks j h v in
+      (λ w. let k = some.0 (by.0 w) in omega arith, λ b. by.1 (some.1 (omega arith)))
 
   -- ---- forbidden
 
-  module _ (words : Words L) (distinct : Distinct ts) (ways : List ℕ) (products : Products masks n ways) where
+  module _ (words : Words L) (distinct : Distinct ts) where
     -- v has support just if fewer live tuples have it than there are ways to choose the others
     fewer_support : (j : ℕ) → j < length s → (v : ℕ) → Left L (get_or s j 0) v
-        → Supported L (forbidden s ts) (get_or s j 0) v ↔ (live_with masks (places n) j v ts < get_or ways j 0)
+        → Supported L (forbidden s ts) (get_or s j 0) v ↔ (live_with masks (places (length s)) j v ts < product_but masks (places (length s)) j)
     fewer_support j h v left =
         let by = forbidden_support L s once j h v left ts words distinct in
-        let same = live_with_places L s masks n long gathered j v ts in
-        let but = product_but_places L s masks n long gathered j in
-        let way = products j (omega arith) in
+        let same = live_with_places L s masks (length s) refl gathered j v ts in
+        let but = product_but_places L s masks (length s) refl gathered j in
         (λ w. let k = by.0 w in omega arith, λ k. by.1 (omega arith))
 
     in_mask : (j : ℕ) → j < length s → (v : ℕ) → Left L (get_or s j 0) v → Has (get_or masks j 0) v
-    in_mask j h v left = rw (gathered j (omega arith)) left
+    in_mask j h v left = rw (gathered j h) left
 
-    pub forbidden_nothing : ((j : ℕ) → j < n → length ts < get_or ways j 0) → Filtering (forbidden s ts) L L 0
+    pub forbidden_nothing : ((j : ℕ) → j < length s → length ts < product_but masks (places (length s)) j) → Filtering (forbidden s ts) L L 0
     forbidden_nothing few =
-        narrowed_filtering (forbidden s ts) L masks L 0 (rw long (narrowed_nothing L s masks n gathered)) λ j h v left.
-        let most = count_le (λ t. live masks (places n) t && eqb (get_or t j 0) v) ts in
-        (λ b. (fewer_support j h v left).1 (omega (arith, few j (omega arith))), λ w. in_mask j h v left)
+        sifted_filtering (forbidden s ts) (λ j v. Unit {0}) L L 0 (length s) refl (all_sifted s (length s) (λ j v. Unit {0}) L (λ j h v l. tt)) λ j v h left.
+        let most = count_le (λ t. live masks (places (length s)) t && eqb (get_or t j 0) v) ts in
+        (λ w. tt, λ b. (fewer_support j h v left).1 (omega (arith, few j h)))
 
-    pub forbidden_filtering : (counts rest K : List ℕ) (c : ℕ) → Counted masks n ts counts → Fewer masks n counts ways rest → Narrowed L s n rest K c
-        → Filtering (forbidden s ts) L K c
-    forbidden_filtering counts rest K c counted fewer narrowed =
-        narrowed_filtering (forbidden s ts) L rest K c (rw long narrowed) λ j h v left.
+    pub forbidden_filtering : (counts rest K : List ℕ) (c : ℕ) → Counted masks (length s) ts counts → Fewer masks (length s) counts rest
+        → Sifted s (length s) (λ j v. Has (get_or rest j 0) v) L K c → Filtering (forbidden s ts) L K c
+    forbidden_filtering counts rest K c counted fewer sifted =
+        sifted_filtering (forbidden s ts) (λ j v. Has (get_or rest j 0) v) L K c (length s) refl sifted λ j v h left.
         let by = fewer_support j h v left in
         let here = in_mask j h v left in
-        let count = counted j (omega arith) v (has_small (get_or L (get_or s j 0) 0) v (words (get_or s j 0)) left) in
-        let digit = fewer j (omega arith) v in
-        let test = counts_one (get_or counts (cell j v) 0) (get_or ways j 0) in
-        let small = one_le (ltb (get_or counts (cell j v) 0) (get_or ways j 0)) in
-        (λ k. by.1 (let l = test.0 (omega arith) in omega arith), λ w. let l = test.1 (let k = by.0 w in omega arith) in omega arith)
+        let count = counted j h v (has_small (get_or L (get_or s j 0) 0) v (words (get_or s j 0)) left) in
+        let digit = fewer j h v in
+        let ways = product_but masks (places (length s)) j in
+        let test = counts_one (get_or counts (cell j v) 0) ways in
+        let small = one_le (ltb (get_or counts (cell j v) 0) ways) in
+        (λ w. let l = test.1 (let k = by.0 w in omega arith) in omega arith, λ k. by.1 (let l = test.0 (omega arith) in omega arith))

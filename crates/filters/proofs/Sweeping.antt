@@ -1,16 +1,16 @@
 -- Sweeps: what filtering by the rules one after the other keeps, and what it has come to when nothing is dropped any more.
 -- Assumes nothing.
-use mathlib.Core.Path.{◌≡◌, refl, sym, ap, ◌∙◌}
+use mathlib.Core.Path.{◌≡◌, refl, sym, ◌∙◌}
 use mathlib.Core.Logic.{◌⊎◌, inl, inr, ⊎_elim, by_cases}
 use mathlib.Core.List.Memᴰ
-use mathlib.Core.List.{List, [], ◌∷◌, ◌++◌, Memᴰ}
-use Prim.Native.Nat.{ℕ, ◌+◌, ◌≤◌, ◌<◌, min}
+use mathlib.Core.List.{List, [], ◌∷◌, ◌++◌, map-append, Memᴰ}
+use Prim.Native.Nat.{ℕ, ◌+◌, ◌≤◌, ◌<◌}
 use native.Mathlib.Decide.{ℕ_discrete, dec_lt}
 use native.Mathlib.Numerals.{add-one}
 use native.Mathlib.Omega.{arith}
 use lib.Bits.{bit_or, or_add_and, and_le_l, and_comm}
-use lib.ListN.{length, get_or, get_or-eq_default}
-use lib.Seq.{ext_get_or}
+use lib.ListN.{length, get_or, take, get_or-eq_default}
+use lib.Seq.{ext_get_or, take-suc}
 use Rattle.meaning.specs.Limits.{value_limit, variable_limit}
 use Rattle.meaning.specs.Values.{Has, size}
 use Rattle.meaning.specs.Rules.{Rule, scope_of}
@@ -20,19 +20,17 @@ use Rattle.meaning.proofs.Sizes.{total_le, total_lt, size_le}
 use Rattle.meaning.proofs.Sets.{some_digit, word_of_digits, same_size}
 use Rattle.meaning.proofs.Largest.{◌⊑◌, same_lists, Removes, stays}
 use Rattle.meaning.proofs.Listed.{Words}
-use Rattle.filters.specs.Layout.{rule_at, rules_at}
+use Rattle.filters.specs.declared.Head.{Head}
+use Rattle.filters.specs.Layout.{no_head, head, rule_under, rule_at, rules_at}
 use Rattle.blocks.specs.Keeping.{Changed}
 use Rattle.filters.specs.Filter.{Filtered, Filtering, Swept, none, more, weight, Sweeping, LargestIn, Toward}
 
 -- ---- the rules that lie in the room
 
-pub rules_none : (heads room : List ℕ) → rules_at heads room 0 ≡ []
-unfolding rules_at
-rules_none heads room = refl
-
-pub rules_more : (heads room : List ℕ) (k : ℕ) → rules_at heads room (k + 1) ≡ rules_at heads room k ++ (rule_at heads room k ∷ [])
-unfolding rules_at
-rules_more heads room k = ap (rules_at heads room) (add-one k)
+pub rules_more : (heads : List Head) (room : List ℕ) (k : ℕ) → k < length heads
+    → rules_at (take (k + 1) heads) room ≡ rules_at (take k heads) room ++ (rule_at heads room k ∷ [])
+rules_more heads room k l =
+    rw (add-one k, take-suc heads k no_head l) (map-append (rule_under room) (take k heads) (head heads k ∷ []))
 
 -- ---- sweeps
 
@@ -157,11 +155,6 @@ toward_more t s = record {
 
 pub toward_end : {rules : List Rule} {B L : List ℕ} → Toward rules B L → Closed rules L → LargestIn rules B L
 toward_end t shut = record { long = t.long; within = t.within; closed = shut; most = t.most }
-
--- each sweep drops values or is the last
-pub sweep_less : {rs : List Rule} {L M : List ℕ} (c d : ℕ) → Sweeping rs L M c → ¬ (d ≡ 0) → weight M + min c 1 < weight L + min d 1
-sweep_less {rs} {L} {M} c d s n =
-    by_cases (dec_lt 0 c) (λ p. omega (arith, s.something p)) (λ z. omega (arith, ap weight (s.nothing (omega arith))))
 
 -- the last sweep shows that the lists are closed
 pub sweep_last : {rs : List Rule} {L M : List ℕ} {c : ℕ} → Sweeping rs L M c → c ≡ 0 → Closed rs M

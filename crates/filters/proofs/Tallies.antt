@@ -1,5 +1,5 @@
 -- Counting in the tuples passed, for each place and value, the live ones that have it there. Assumes nothing.
-use mathlib.Core.Path.{◌≡◌, refl, ap, ◌∙◌}
+use mathlib.Core.Path.{◌≡◌, ap, ◌∙◌}
 use mathlib.Core.Logic.{by_cases}
 use mathlib.Core.Bool.{true, false, ◌&&◌}
 use mathlib.Core.List.{List}
@@ -8,15 +8,14 @@ use native.Mathlib.Decide.{ℕ_discrete, dec_lt}
 use native.Mathlib.Omega.{arith}
 use borrow.Author.Tests.{eq-eqb, ne_eqb}
 use lib.Dec.{eqb}
-use lib.ListN.{length, get_or, set, take, drop, replicate, length-set, length-take, length-replicate}
+use lib.ListN.{length, get_or, set, take, replicate, length-set, length-take, length-replicate}
 use lib.Seq.{get_or-set_same, get_or-set_other}
 use Rattle.meaning.specs.Limits.{value_limit}
-use Rattle.meaning.specs.Calls.{rows}
 use Rattle.meaning.proofs.Counting.{one, count_le}
 use Rattle.meaning.proofs.Listed.{live}
 use Rattle.filters.specs.Tables.{Tallying, Counted, Blank, cell, places}
 use Rattle.blocks.proofs.Copying.{zeros_at}
-use Rattle.filters.proofs.Passes.{passed, live_more, dead_more}
+use Rattle.filters.proofs.Passes.{live_more, dead_more}
 
 -- ---- one tuple
 
@@ -27,9 +26,6 @@ pub record Tallied (w : ℕ → ℕ) (O : List ℕ) (n : ℕ) (C : List ℕ) : T
   pub left : (j : ℕ) → n ≤ j → (v : ℕ) → get_or C (cell j v) 0 ≡ get_or O (cell j v) 0
 
 module _ (w : ℕ → ℕ) (O : List ℕ) where
-  pub tallied_none : Tallied w O 0 O
-  tallied_none = record { long = refl; done = λ j h. absurd (omega arith); left = λ j h v. refl }
-
   module _ (n : ℕ) (C : List ℕ) (small : w n < value_limit) (inside : cell n (w n) < length C) (t : Tallied w O n C) where
     counted : ℕ
     counted = get_or C (cell n (w n)) 0 + 1
@@ -64,22 +60,15 @@ module _ (w : ℕ → ℕ) (O : List ℕ) where
 pub blank_new : (arity n : ℕ) → arity * value_limit ≤ n → Blank arity (replicate n 0)
 blank_new arity n h = record { long = omega (arith, length-replicate {A = ℕ} n 0); zeros = zeros_at n }
 
-module _ (room masks : List ℕ) (first arity tuples : ℕ) where
-  pub counted_none : (counts : List ℕ) → Blank arity counts → Counted masks arity (passed room first arity tuples 0) counts
-  counted_none counts b j h v l = b.zeros (cell j v)
-
+module _ (ts : List (List ℕ)) (masks : List ℕ) (arity : ℕ) where
   -- no count is above the number of tuples passed
-  pub counted_few : (k : ℕ) (C : List ℕ) → Counted masks arity (passed room first arity tuples k) C
-      → (j : ℕ) → j < arity → (v : ℕ) → v < value_limit → get_or C (cell j v) 0 ≤ k
-  counted_few k C c j h v l =
-      omega (arith, c j h v l, count_le (λ t. live masks (places arity) t && eqb (get_or t j 0) v) (passed room first arity tuples k), length-take k (rows tuples arity (drop first room)))
+  pub counted_few : (k : ℕ) (C : List ℕ) → Counted masks arity (take k ts) C → (j : ℕ) → j < arity → (v : ℕ) → v < value_limit → get_or C (cell j v) 0 ≤ k
+  counted_few k C c j h v l = omega (arith, c j h v l, count_le (λ t. live masks (places arity) t && eqb (get_or t j 0) v) (take k ts), length-take k ts)
 
-  module _ (at k : ℕ) (h : k < tuples) (e : at ≡ first + arity * k) where
-    pub counted_live : (C D : List ℕ) → live masks (places arity) (take arity (drop at room)) ≡ true
-        → Tallying room at arity C D
-        → Counted masks arity (passed room first arity tuples k) C → Counted masks arity (passed room first arity tuples (k + 1)) D
-    counted_live C D l f c j i v b = omega (arith, f j i v b, c j i v b, live_more room masks first arity tuples at k h e l j i v)
+  module _ (k : ℕ) (t : List ℕ) (turn : (k < length ts) × (t ≡ get_or ts k t)) where
+    pub counted_live : (C D : List ℕ) → live masks (places arity) t ≡ true → length t ≡ arity → Tallying t C D
+        → Counted masks arity (take k ts) C → Counted masks arity (take (k + 1) ts) D
+    counted_live C D l long f c j i v b = omega (arith, f j (omega arith) v b, c j i v b, live_more ts masks arity k t turn l j v)
 
-    pub counted_dead : (C : List ℕ) → live masks (places arity) (take arity (drop at room)) ≡ false
-        → Counted masks arity (passed room first arity tuples k) C → Counted masks arity (passed room first arity tuples (k + 1)) C
-    counted_dead C l c j i v b = omega (arith, c j i v b, dead_more room masks first arity tuples at k h e l j v)
+    pub counted_dead : (C : List ℕ) → live masks (places arity) t ≡ false → Counted masks arity (take k ts) C → Counted masks arity (take (k + 1) ts) C
+    counted_dead C l c j i v b = omega (arith, c j i v b, dead_more ts masks arity k t turn l j v)

@@ -2,9 +2,11 @@
 use mathlib.Core.Path.{◌≡◌, sym, ◌∙◌}
 use mathlib.Core.List.{List}
 use Prim.Native.Nat.{ℕ}
+use lib.ListN.{length}
 use Rattle.meaning.specs.Rules.{Rule}
 use Rattle.meaning.proofs.Largest.{same_lists}
 use Rattle.blocks.proofs.Unique.{changed_unique, done_or_not}
+use Rattle.filters.specs.declared.Head.{Head}
 use Rattle.filters.specs.Filter.{Filtered, Filtering, FiltersBy, SettlesLists}
 
 filtered_unique : {r : Rule} {L K M : List ℕ} → Filtered r L K → Filtered r L M → K ≡ M
@@ -17,10 +19,10 @@ filtering_unique {L} {K} {c} {d} a b =
     let e = filtered_unique a.filtered b.filtered in
     (e, changed_unique L K c d a.changed (rw e b.changed))
 
-pub filter_rule_unique : (heads room : List ℕ) (rules k : ℕ) (L K M : List ℕ) (c d : ℕ) → FiltersBy heads room rules k L K c → FiltersBy heads room rules k L M d
+pub filter_rule_unique : (heads : List Head) (room : List ℕ) (k : ℕ) (L K M : List ℕ) (c d : ℕ) → FiltersBy heads room k L K c → FiltersBy heads room k L M d
     → (K ≡ M) × (c ≡ d)
-filter_rule_unique heads room rules k L K M c d a b = done_or_not L k rules (λ l long. filtering_unique (a.by l long) (b.by l long)) a.none b.none
+filter_rule_unique heads room k L K M c d a b = done_or_not L k (length heads) (λ l long. filtering_unique (a.by l long) (b.by l long)) a.none b.none
 
-pub settled_unique : (heads room : List ℕ) (rules : ℕ) (lists r q : List ℕ) → SettlesLists heads room rules lists r → SettlesLists heads room rules lists q → r ≡ q
-settled_unique heads room rules lists r q a b =
+pub settled_unique : (heads : List Head) (room lists r q : List ℕ) → SettlesLists heads room lists r → SettlesLists heads room lists q → r ≡ q
+settled_unique heads room lists r q a b =
     same_lists (a.long ∙ sym b.long) (b.most r a.within a.closed) (a.most q b.within b.closed)

@@ -1,5 +1,5 @@
 -- What filtering makes of lists: by one rule, by a sweep over the rules in the order held, and to the end.
-use Rattle.std.specs.Prelude.{◌≡◌, ◌⊎◌, ℕ, ◌+◌, ◌≤◌, ◌<◌, length, get_or}
+use Rattle.std.specs.Prelude.{◌≡◌, ◌⊎◌, ℕ, ◌≤◌, ◌<◌, length, get_or}
 use mathlib.Core.List.{List, [], ◌∷◌, Memᴰ}
 use Rattle.meaning.specs.Limits.{variable_limit}
 use Rattle.meaning.specs.Values.{total, size}
@@ -7,6 +7,7 @@ use Rattle.meaning.specs.Rules.{Rule, scope_of}
 use Rattle.meaning.specs.Lists.{Left, Supported, Closed}
 use Rattle.meaning.specs.Proper.{ProperRule}
 use Rattle.blocks.specs.Keeping.{Changed}
+use Rattle.filters.specs.declared.Head.{Head}
 use Rattle.filters.specs.Layout.{rule_at, rules_at}
 
 -- K is what is left of L once every value without support in r is dropped
@@ -53,17 +54,16 @@ pub record Filtering (r : Rule) (L K : List ℕ) (c : ℕ) : Type 0 where
   pub filtered : Filtered r L K
   pub changed : Changed L K c
 
--- what filtering by a rule of a certain size in the room asks
-pub record Ready (room : List ℕ) (start size : ℕ) (r : Rule) (L : List ℕ) : Type 0 where
+-- what filtering by a rule asks
+pub record Ready (r : Rule) (L : List ℕ) : Type 0 where
   pub lists : length L ≡ variable_limit
-  pub fits : start + size ≤ length room
   pub proper : ProperRule variable_limit r
 
 -- filtering by the k-th of some rules: where there is no such rule, or there aren't 32 lists, nothing changes
-pub record FiltersBy (heads room : List ℕ) (rules k : ℕ) (L K : List ℕ) (c : ℕ) : Type 0 where
-  pub by : k < rules → length L ≡ variable_limit → Filtering (rule_at heads room k) L K c
-  pub none : (rules ≤ k) ⊎ ¬ (length L ≡ variable_limit) → (K ≡ L) × (c ≡ 0)
+pub record FiltersBy (heads : List Head) (room : List ℕ) (k : ℕ) (L K : List ℕ) (c : ℕ) : Type 0 where
+  pub by : k < length heads → length L ≡ variable_limit → Filtering (rule_at heads room k) L K c
+  pub none : (length heads ≤ k) ⊎ ¬ (length L ≡ variable_limit) → (K ≡ L) × (c ≡ 0)
 
 -- r are the largest lists within those given in which every value has support in each of the rules
-abbrev pub SettlesLists : List ℕ → List ℕ → ℕ → List ℕ → List ℕ → Type 0
-SettlesLists heads room rules lists r = LargestIn (rules_at heads room rules) lists r
+abbrev pub SettlesLists : List Head → List ℕ → List ℕ → List ℕ → Type 0
+SettlesLists heads room lists r = LargestIn (rules_at heads room) lists r

@@ -1,59 +1,46 @@
-// Table rules in the room: the rule's variables, then its tuples, each as many numbers as there are variables.
-ghost use Rattle.std.specs.Prelude.{◌≡◌, length, take, drop};
-ghost use Rattle.meaning.specs.Limits.{variable_limit, value_limit};
-ghost use Rattle.meaning.specs.Proper.{Distinct};
+// Table rules: a scope, which is the rule's variables, and its tuples, each as many numbers as the scope has.
+ghost use Rattle.std.specs.Prelude.{◌≡◌, ◌≤◌, length, get_or};
+ghost use Rattle.meaning.specs.Limits.{variable_limit, value_limit, arity_limit};
+ghost use Rattle.meaning.specs.Values.{Has};
 ghost use Rattle.meaning.proofs.Listed.{live};
-ghost use Rattle.filters.specs.Layout.{scope_at};
-ghost use Rattle.filters.specs.Tables.{Cells, Gathered, Narrowed, places};
+ghost use Rattle.filters.specs.Sifting.{Known, Sifted};
+ghost use Rattle.filters.specs.Tables.{Below, Gathered, places};
 
 use blocks::keep;
 
-// The lists of the rule's variables, side by side: a mask for each place of a tuple.
-pub(crate) fn gather(room: &[u16], start: usize, arity: usize, lists: &[u64]) -> [u64; 8]
-    requires { Cells room.now start arity variable_limit × (length lists.now ≡ variable_limit) }
-    ensures { Gathered lists.now (scope_at room.now start arity) arity result }
+// The lists of the variables, side by side: a mask for each place of a tuple.
+pub(crate) fn gather(scope: &[u16], lists: &[u64]) -> [u64; 8]
+    requires { (length scope.now ≤ arity_limit) × Below variable_limit scope.now × (length lists.now ≡ variable_limit) }
+    ensures { Gathered lists.now scope.now (length scope.now) result }
 {
     let mut masks = [0u64; 8];
-    let mut j = 0;
-    while j < arity {
-        let x = room[start + j] as usize;
-        masks[j] = lists[x];
-        j += 1;
+    for (j, x) in scope.iter().enumerate() {
+        masks[j] = lists[*x as usize];
     }
     masks
 }
 
-// Whether each value of the tuple at a place of the room is in its mask.
-pub(crate) fn is_live(room: &[u16], at: usize, arity: usize, masks: &[u64; 8]) -> bool
-    requires { Cells room.now at arity value_limit }
-    ensures { result ≡ live masks.now (places arity) (take arity (drop at room.now)) }
+// Whether each value of the tuple is in its mask.
+pub(crate) fn is_live(tuple: &[u16], masks: &[u64]) -> bool
+    requires { (length tuple.now ≡ length masks.now) × Below value_limit tuple.now }
+    ensures { result ≡ live masks.now (places (length masks.now)) tuple.now }
 {
-    let mut j = 0;
-    while j < arity {
-        if (masks[j] >> room[at + j]) & 1 != 1 {
+    for (j, value) in tuple.iter().enumerate() {
+        if (masks[j] >> *value) & 1 != 1 {
             return false;
         }
-        j += 1;
     }
     true
 }
 
-// Keeps of the lists of the rule's variables what the masks have too. The answer is the set of the variables whose lists change.
-pub(crate) fn keep_each(
-    room: &[u16],
-    start: usize,
-    arity: usize,
-    masks: &[u64; 8],
-    lists: &mut [u64],
-) -> u64
-    requires { Cells room.now start arity variable_limit × Distinct (scope_at room.now start arity) × (length lists.old ≡ variable_limit) }
-    ensures { Narrowed lists.old (scope_at room.now start arity) arity masks.now lists.new result }
+// Keeps of the lists of the variables what the masks have too. The answer is the set of the variables whose lists change.
+pub(crate) fn keep_each(scope: &[u16], masks: &[u64], lists: &mut [u64]) -> u64
+    requires { Known scope.now lists.old × (length scope.now ≤ length masks.now) }
+    ensures { Sifted scope.now (length scope.now) (λ j v. Has (get_or masks.now j 0) v) lists.old lists.new result }
 {
     let mut changed = 0;
-    let mut j = 0;
-    while j < arity {
-        changed |= keep(lists, room[start + j] as usize, masks[j]);
-        j += 1;
+    for (j, x) in scope.iter().enumerate() {
+        changed |= keep(lists, *x as usize, masks[j]);
     }
     changed
 }

@@ -24,10 +24,12 @@ use Rattle.cases.proofs.Table.{all_say}
 use Rattle.profile.specs.Compared.{IsBetter}
 use Rattle.profile.proofs.Lengths.{comparable_sym}
 use Rattle.state.proofs.Runs.{run_stands}
-use Rattle.decide.specs.declared.Left.TheVariants.{Values}
+use Rattle.std.specs.Prelude.{Result, Ok}
+use Rattle.refusals.specs.declared.Refusal.{Refusal}
+use Rattle.refusals.specs.Numbers.{number_of}
 use Rattle.leximin.specs.declared.Solved.{Solved}
 use Rattle.leximin.specs.declared.Solved.TheVariants.{Found, Inconsistent as NoneFound}
-use Rattle.leximin.specs.Solving.{Outcome, solved_number}
+use Rattle.leximin.specs.Solving.{Outcome}
 use Rattle.leximin.proofs.Unique.{outcome_unique}
 use Rattle.guarantees.specs.Telling.{list_of}
 use Rattle.guarantees.specs.Binding.{KeepsFirst, TakesSecond, SaysSolved, SaysLeft, Binds}
@@ -58,7 +60,7 @@ enough w n e fits =
     let named = (passed _ e).0 in
     finds _ 0 (inr (named, inr (le-ltb n (length w.declared) fits, refl)))
 
-says_solved : (calls : List Call) (A : Standing → Type 0) (answer : Solved) (left : List ℕ → List ℕ) → solved_number answer ≡ 0
+says_solved : (calls : List Call) (A : Standing → Type 0) (answer : Result Solved Refusal) (left : List ℕ → List ℕ) → number_of answer ≡ 0
     → ((w : Standing) → A w → (buffer : List ℕ) → Outcome w buffer answer (left buffer)) → After calls (λ w. Solves w (A w)) → SaysSolved calls answer left
 says_solved calls A answer left e outcome so s before after r run fits told =
     let w = so.stands in
@@ -71,7 +73,7 @@ says_left : (calls : List Call) (L : List ℕ) → After calls (λ w. Largest w 
 says_left calls L so s x r run below told =
     let w = so.stands in
     let is : unknown w x ≡ false = lt-leb (length w.declared) x (omega (arith, (run_stands w run so.leaves).variables)) in
-    let known : list_of w L x ≡ Values (get_or L x 0) = rw is in
+    let known : list_of w L x ≡ Ok (get_or L x 0) = rw is in
     (run_right run so.leaves).left x r told L so.so ∙ known
 
 -- ---- the table
@@ -97,9 +99,9 @@ binds (tie u w) t e =
     let can = is_true (comparable u w) t in
     (keeps_first u w can (tie_not_better u w e), keeps_first w u (comparable_sym u w can) (tie_not_better w u (sym e)))
 binds (solves calls a) t so =
-    says_solved calls (λ w. Answer w a) Found (written a) refl (λ w p buffer. record { rota = a; answer = p; buffer = refl }) so
+    says_solved calls (λ w. Answer w a) (Ok Found) (written a) refl (λ w p buffer. record { rota = a; answer = p; buffer = refl }) so
 binds (inconsistent calls) t so =
-    says_solved calls Inconsistent NoneFound (λ buffer. buffer) refl (λ w p buffer. record { none = p; buffer = refl }) so
+    says_solved calls Inconsistent (Ok NoneFound) (λ buffer. buffer) refl (λ w p buffer. record { none = p; buffer = refl }) so
 binds (leaves calls L) t so = says_left calls L so
 
 -- every case of document 01 binds the routines

@@ -19,9 +19,10 @@ use Rattle.state.specs.Promises.{Answers}
 use Rattle.state.specs.Runs.{Run, step}
 use Rattle.state.proofs.Runs.{run_stands, run_largest}
 use Rattle.state.proofs.Unique.{holds_unique}
-use Rattle.decide.specs.declared.Left.{Left}
-use Rattle.decide.specs.declared.Left.TheVariants.{Values, Refused}
-use Rattle.decide.specs.Decisions.{left_number, left_values}
+use Rattle.std.specs.Prelude.{Result, Ok, Err}
+use Rattle.refusals.specs.declared.Refusal.{Refusal}
+use Rattle.refusals.specs.Numbers.{number_of}
+use Rattle.decide.specs.Decisions.{left_values}
 use Rattle.desk.specs.DeskRuns.{DeskRun}
 use Rattle.desk.proofs.Runs.{desk_run}
 use Rattle.guarantees.specs.Telling.{RightOf, Restores, TakenBack}
@@ -29,11 +30,11 @@ use Rattle.guarantees.specs.Telling.{RightOf, Restores, TakenBack}
 -- ---- a run
 
 -- the number and the values fix the answer
-left_is : (unknown : Bool) (m : ℕ) (r : Left) → left_number r ≡ cond unknown 1 0 → left_values r ≡ m → r ≡ cond unknown (Refused NoSuchVariable) (Values m)
-left_is true m (Values n) e f = absurd (omega arith)
-left_is true m (Refused q) e f = ap Refused (same_refusal q NoSuchVariable e)
-left_is false m (Values n) e f = ap Values f
-left_is false m (Refused q) e f = not_accepted q e
+left_is : (unknown : Bool) (m : ℕ) (r : Result ℕ Refusal) → number_of r ≡ cond unknown 1 0 → left_values r ≡ m → r ≡ cond unknown (Err NoSuchVariable) (Ok m)
+left_is true m (Ok n) e f = absurd (omega arith)
+left_is true m (Err q) e f = ap Err (same_refusal q NoSuchVariable e)
+left_is false m (Ok n) e f = ap Ok f
+left_is false m (Err q) e f = not_accepted q e
 
 -- after any run the values left are the largest lists of what the history leaves, and solving answers as of it
 pub run_right : {h : List Call} {s : State} {w : Standing} → Run h s → Leaves h w → RightOf s w

@@ -1,7 +1,7 @@
 -- Raising the thresholds place by place, each by one for as long as a rota reaches it (Algorithm 4). Assumes nothing.
 use mathlib.Core.Path.{◌≡◌, refl, sym, ap, ◌∙◌}
 use mathlib.Core.Logic.{by_cases}
-use mathlib.Core.Bool.{Bool, true, false, true≢false}
+use Rattle.std.specs.Prelude.{None}
 use mathlib.Core.List.{List, [], ◌∷◌, Memᴰ}
 use Prim.Native.Nat.{ℕ, suc, ◌+◌, ◌-◌, ◌^◌, ◌≤◌, ◌<◌}
 use native.Mathlib.Numerals.{add-one}
@@ -20,7 +20,7 @@ use Rattle.meaning.proofs.Assignments.{values_at_lem}
 use Rattle.meaning.proofs.Digits.{has_small}
 use Rattle.meaning.proofs.Solutions.{values_same}
 use Rattle.meaning.proofs.Greedy.{Reaches, then}
-use Rattle.search.specs.Search.{Meets, FirstOf, Searched}
+use Rattle.search.specs.Search.{Meets, FirstOf, Found, Searched}
 use Rattle.leximin.specs.Solving.{Best, Climbed}
 use Rattle.blocks.proofs.Copying.{zeros_at}
 use Rattle.filters.proofs.Cells.{mem_at}
@@ -106,23 +106,20 @@ module _ (rules : List Rule) (objectives : List ℕ) (n : ℕ) (L : List ℕ) wh
     profile_count : (a : List ℕ) → length (values_at a objectives) ≡ count
     profile_count a = length-map objectives (at a) ∙ whole
 
-    pub climb_start : {found : Bool} (out : List ℕ) → found ≡ true → Searched rules objectives (take count (replicate 16 0)) n L found out → Climbing (take n out) (replicate 16 0) 0
-    climb_start out is s = record {
+    pub climb_start : (out : List ℕ) → Found rules objectives (take count (replicate 16 0)) n L out → Climbing (take n out) (replicate 16 0) 0
+    climb_start out s = record {
       inside = omega arith;
       wide = length-replicate {A = ℕ} 16 0;
       zeros = λ j h. zeros_at 16 j;
       thresholds = take count (replicate 16 0);
       few = omega (arith, length-take count (replicate {A = ℕ} 16 0));
-      first = s.first is;
+      first = s.first;
       reached = λ j h. absurd (omega arith);
       largest = λ j h. absurd (omega arith);
     }
 
-    pub climb_none : {found : Bool} (out : List ℕ) → found ≡ false → Searched rules objectives (take count (replicate 16 0)) n L found out → Climbed rules objectives n L found out
-    climb_none out not s = record {
-      best = λ e. absurd (true≢false (sym e ∙ not));
-      none = λ e a m. s.none not a (meets_alike [] (take count (replicate 16 0)) a nought m);
-    }
+    pub climb_none : Searched rules objectives (take count (replicate 16 0)) n L None → Climbed rules objectives n L None
+    climb_none none a m = none a (meets_alike [] (take count (replicate 16 0)) a nought m)
       where
         nought : (j : ℕ) → get_or {A = ℕ} [] j 0 ≡ get_or (take count (replicate 16 0)) j 0
         nought j =
@@ -145,10 +142,10 @@ module _ (rules : List Rule) (objectives : List ℕ) (n : ℕ) (L : List ℕ) wh
           }
 
       module _ (h : i < count) where
-        module _ (u : ℕ) {found : Bool} (out : List ℕ) (s : Searched rules objectives (take count (set floors i u)) n L found out) where
+        module _ (u : ℕ) (out : List ℕ) (s : Found rules objectives (take count (set floors i u)) n L out) where
           -- a rota reaches the raised threshold: it stays raised
-          pub climb_higher : found ≡ true → Climbing (take n out) (set floors i u) i
-          climb_higher is =
+          pub climb_higher : Climbing (take n out) (set floors i u) i
+          climb_higher =
               let wide = length-set floors i u ∙ c.wide in
               record {
                 inside = c.inside;
@@ -156,22 +153,23 @@ module _ (rules : List Rule) (objectives : List ℕ) (n : ℕ) (L : List ℕ) wh
                 zeros = λ j k. get_or-set_other floors i j u 0 (λ e. omega arith) ∙ c.zeros j k;
                 thresholds = take count (set floors i u);
                 few = omega (arith, length-take count (set floors i u));
-                first = s.first is;
-                reached = reaches_front i count (set floors i u) (values_at (take n out) objectives) (omega arith) (omega arith) (s.first is).holds.reaches;
+                first = s.first;
+                reached = reaches_front i count (set floors i u) (values_at (take n out) objectives) (omega arith) (omega arith) s.first.holds.reaches;
                 largest = λ j k b. rw (take-set-le j floors i u (omega arith), get_or-set_other floors i j u 0 (λ e. omega arith)) (c.largest j k b);
               }
 
-          pub level_higher : found ≡ true → u ≤ level objectives (take n out) i
-          level_higher is =
+          pub level_higher : u ≤ level objectives (take n out) i
+          level_higher =
               let p = take count (set floors i u) in
               let long = length-take-le count (set floors i u) (omega (arith, length-set floors i u, c.wide)) in
               let e : get_or p i 0 ≡ u = get_or-take count (set floors i u) i 0 h ∙ get_or-set_same floors i u 0 (omega (arith, c.wide)) in
-              let r = (s.first is).holds.reaches i (omega arith) in
+              let r = s.first.holds.reaches i (omega arith) in
               (place_iff (values_at (take n out) objectives) i u (omega (arith, profile_count (take n out)))).1 (rw e at r)
 
+        module _ (u : ℕ) (none : Searched rules objectives (take count (set floors i u)) n L None) where
           -- none does: it goes back to what a reaches, and is done
-          pub climb_on : (v : ℕ) → v ≡ level objectives a i → u ≡ v + 1 → found ≡ false → Climbing a (set (set floors i u) i v) (i + 1)
-          climb_on v ev eu not = rw (set-set floors i u v) (record {
+          pub climb_on : (v : ℕ) → v ≡ level objectives a i → u ≡ v + 1 → Climbing a (set (set floors i u) i v) (i + 1)
+          climb_on v ev eu = rw (set-set floors i u v) (record {
             inside = omega arith;
             wide = length-set floors i v ∙ c.wide;
             zeros = λ j k. get_or-set_other floors i j v 0 (λ e. omega arith) ∙ c.zeros j (omega arith);
@@ -196,7 +194,7 @@ module _ (rules : List Rule) (objectives : List ℕ) (n : ℕ) (L : List ℕ) wh
 
               above : (b : List ℕ) → ¬ Meets rules objectives (then (take i floors) u) n L b
               above b m =
-                  s.none not b (meets_alike (then (take i floors) u) (take count (set floors i u)) b
+                  none b (meets_alike (then (take i floors) u) (take count (set floors i u)) b
                   (λ k. sym (raised_at floors i u count h (omega (arith, c.wide)) c.zeros k)) m)
 
               new : (j : ℕ) → i ≡ j → (b : List ℕ) → ¬ Meets rules objectives (then (take j (set floors i v)) (suc (get_or (set floors i v) j 0))) n L b

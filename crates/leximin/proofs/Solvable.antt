@@ -1,8 +1,8 @@
 -- What a state holds, as the search takes it: the rotas within its lists are the solutions, and the best of them the answer. Assumes nothing.
 use mathlib.Core.Path.{◌≡◌, sym, ap, ◌∙◌, subst}
-use mathlib.Core.Bool.{Bool}
+use Rattle.std.specs.Prelude.{Option, None, Some}
 use mathlib.Core.List.{List}
-use Prim.Native.Nat.{ℕ, ◌-◌, ◌≤◌}
+use Prim.Native.Nat.{ℕ, ◌≤◌}
 use native.Mathlib.Omega.{arith}
 use lib.ListN.{length, take, length-map}
 use Rattle.meaning.specs.Limits.{variable_limit}
@@ -18,7 +18,7 @@ use Rattle.meaning.proofs.Greedy.{Reaches, Greedy, FirstReaching, reaches_iff, g
 use Rattle.state.specs.declared.State.{State}
 use Rattle.filters.specs.Layout.{rules_at}
 use Rattle.blocks.specs.Blocks.{block}
-use Rattle.state.specs.Holds.{Holds}
+use Rattle.state.specs.Holds.{Holds, heads_held}
 use Rattle.search.specs.Search.{Meets}
 use Rattle.leximin.specs.Solving.{Best, Climbed, Settles, SolvedBy}
 use Rattle.state.proofs.Holding.{current}
@@ -27,7 +27,7 @@ use Rattle.state.proofs.Reading.{rules_held}
 
 module _ (s : State) (w : Standing) (p : Proper w) (hold : Holds s w) where
   module _ (L : List ℕ) (is : L ≡ block s.lists s.depth variable_limit) where
-    there : (y a : List ℕ) → Meets (rules_at s.heads s.room s.rules) (take s.objectives s.objective) y s.variables L a
+    there : (y a : List ℕ) → Meets (rules_at (heads_held s) s.room) (take s.objectives s.objective) y s.variables L a
         → Solution w a × Reaches y (profile w a)
     there y a m = (
       record {
@@ -40,7 +40,7 @@ module _ (s : State) (w : Standing) (p : Proper w) (hold : Holds s w) where
     )
 
     back : (y a : List ℕ) → Solution w a → Reaches y (profile w a)
-        → Meets (rules_at s.heads s.room s.rules) (take s.objectives s.objective) y s.variables L a
+        → Meets (rules_at (heads_held s) s.room) (take s.objectives s.objective) y s.variables L a
     back y a t r = record {
       long = t.long ∙ sym hold.variables;
       inside = λ x h. high s w p hold L is x (at a x) (solution_kept t (λ q i z j. omega (arith, (p.rules q i).known z j, t.long)) (largest_between (current hold)) x (omega (arith, t.long, hold.variables)));
@@ -48,7 +48,7 @@ module _ (s : State) (w : Standing) (p : Proper w) (hold : Holds s w) where
       reaches = rw (names s w p hold) r;
     }
 
-    best_answer : (a : List ℕ) → Best (rules_at s.heads s.room s.rules) (take s.objectives s.objective) s.variables L a → Answer w a
+    best_answer : (a : List ℕ) → Best (rules_at (heads_held s) s.room) (take s.objectives s.objective) s.variables L a → Answer w a
     best_answer a b = found_last w b.vector b.thresholds a greedy first reached short below
       where
         count : length (take s.objectives s.objective) ≡ length w.objectives
@@ -78,15 +78,12 @@ module _ (s : State) (w : Standing) (p : Proper w) (hold : Holds s w) where
             subst (λ (z : List ℕ). b.thresholds ≼ z) (greedy_sorted w b.vector greedy a found.0 reached)
             ((reaches_iff b.thresholds (profile w a) (omega (arith, short, length-map w.objectives (at a)))).0 found.1)
 
-    settles : (found : Bool) (out : List ℕ)
-        → Climbed (rules_at s.heads s.room s.rules) (take s.objectives s.objective) s.variables L found out → Settles w found out
-    settles found out c = record {
-      answer = λ e. rw (← hold.variables) (best_answer (take s.variables out) (c.best e));
-      none = λ e a t. c.none e a (back _ a t (λ i h. absurd (omega arith)));
-    }
+    settles : (r : Option (List ℕ)) → Climbed (rules_at (heads_held s) s.room) (take s.objectives s.objective) s.variables L r → Settles w r
+    settles None none = λ a t. none a (back _ a t (λ i h. absurd (omega arith)))
+    settles (Some out) best = rw (← hold.variables) (best_answer (take s.variables out) best)
 
 -- ---- as the code comes by it
 
-pub solved_by : (s : State) (L : List ℕ) → L ≡ block s.lists s.depth variable_limit → (found : Bool) (out : List ℕ)
-    → Climbed (rules_at s.heads s.room s.rules) (take s.objectives s.objective) s.variables L found out → SolvedBy s found out
-solved_by s L is found out c h w l hold = settles s w (leaves_proper l) hold L is found out c
+pub solved_by : (s : State) (L : List ℕ) → L ≡ block s.lists s.depth variable_limit → (r : Option (List ℕ))
+    → Climbed (rules_at (heads_held s) s.room) (take s.objectives s.objective) s.variables L r → SolvedBy s r
+solved_by s L is r c h w l hold = settles s w (leaves_proper l) hold L is r c

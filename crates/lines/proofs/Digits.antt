@@ -10,7 +10,7 @@ use native.Mathlib.Decide.{dec_lt}
 use borrow.Author.Tests.{lt-ltb, le-ltb}
 use lib.Dec.{ltb}
 use lib.ListN.{length, get_or, take, drop, length-append, take-append-drop}
-use lib.Seq.{take-suc, take-length}
+use lib.Seq.{take-suc}
 use Rattle.lines.specs.Lines.{spell, decimal, field, numbers}
 
 -- ---- the digits
@@ -67,6 +67,32 @@ decimal_from n l h = spell_from 19 n h ∙ ap (λ (x : List ℕ). x ++ ((48 + n 
 pub decimal_longer : (n : ℕ) → n < 2 ^ 64 → 10 ≤ n → length (decimal n) ≡ length (decimal (n / 10)) + 1
 decimal_longer n l h = ap length (decimal_from n l h) ∙ length-append (decimal (n / 10)) ((48 + n % 10) ∷ [])
 
+-- a smaller number has no more digits
+spell_fewer : (k m n : ℕ) → m ≤ n → length (spell k m) ≤ length (spell k n)
+unfolding spell
+spell_fewer zero m n h = zero-le
+spell_fewer (suc k) m n h = go (dec_lt m 10) (dec_lt n 10) (spell_fewer k (m / 10) (n / 10))
+  where
+    go : Dec (m < 10) → Dec (n < 10) → (m / 10 ≤ n / 10 → length (spell k (m / 10)) ≤ length (spell k (n / 10))) → length (spell (suc k) m) ≤ length (spell (suc k) n)
+    go (yes p) (yes q) l = let e = ap length (spell_below k m p) in let f = ap length (spell_below k n q) in omega arith
+    go (yes p) (no q) l =
+        let e = ap length (spell_below k m p) in
+        let f = ap length (spell_from k n (omega arith)) in
+        let g = length-append (spell k (n / 10)) ((48 + n % 10) ∷ []) in
+        omega arith
+    go (no p) (yes q) l = absurd (omega arith)
+    go (no p) (no q) l =
+        let e = ap length (spell_from k m (omega arith)) in
+        let f = ap length (spell_from k n (omega arith)) in
+        let g = length-append (spell k (n / 10)) ((48 + n % 10) ∷ []) in
+        let i = length-append (spell k (m / 10)) ((48 + m % 10) ∷ []) in
+        let fewer = l (omega arith) in
+        omega arith
+
+pub decimal_fewer : (n m : ℕ) → m ≤ n → length (decimal m) ≤ length (decimal n)
+unfolding decimal
+decimal_fewer n m h = spell_fewer 20 m n h
+
 pub byte_short : (n : ℕ) → n < 256 → length (decimal n) ≤ 3
 unfolding decimal
 byte_short n h = spell_short 20 2 n (omega arith)
@@ -89,9 +115,6 @@ numbers_more ns j h =
     ∙ ap numbers (take-suc ns j 0 h)
     ∙ numbers_append (take j ns) (get_or ns j 0 ∷ [])
     ∙ ap (λ (x : List ℕ). numbers (take j ns) ++ x) (append-nil (field (get_or ns j 0))))
-
-pub numbers_all : (ns : List ℕ) (j : ℕ) → j ≡ length ns → numbers (take j ns) ≡ numbers ns
-numbers_all ns j e = ap (λ (k : ℕ). numbers (take k ns)) e ∙ ap numbers (take-length ns)
 
 -- they are no longer than all
 pub numbers_room : (ns : List ℕ) (j : ℕ) → j < length ns → length (numbers (take j ns)) + length (field (get_or ns j 0)) ≤ length (numbers ns)

@@ -21,16 +21,14 @@ fn put_byte(out: &mut [u8], at: usize, byte: u8) -> usize
 }
 
 // Writes a word's bytes from a place on, and answers the place behind them.
+#[tactic(auto, using(crate::proofs::Putting::put_part))]
 fn put_word(out: &mut [u8], at: usize, word: &[u8]) -> usize
     requires { at + length word.now ≤ length out.old }
     ensures { Put out.old at word.now out.new result }
 {
-    let mut j = 0;
-    while j < word.len() {
-        out[at + j] = word[j];
-        j += 1;
-    }
-    at + j
+    let end = at + word.len();
+    out[at..end].copy_from_slice(word);
+    end
 }
 
 // Writes a number's decimal digits from a place on.
@@ -56,20 +54,20 @@ fn put_field(out: &mut [u8], at: usize, n: usize) -> usize
 }
 
 // Writes each number after one space.
+#[tactic(auto, using(crate::proofs::Digits::numbers_room))]
 fn put_numbers(out: &mut [u8], at: usize, ns: &[u8]) -> usize
     requires { at + length (numbers ns.now) ≤ length out.old }
     ensures { Put out.old at (numbers ns.now) out.new result }
 {
     let mut end = at;
-    let mut j = 0;
-    while j < ns.len() {
-        end = put_field(out, end, ns[j] as usize);
-        j += 1;
+    for n in ns {
+        end = put_field(out, end, *n as usize);
     }
     end
 }
 
 // The file has more bytes than the program takes.
+#[tactic(auto, using(crate::proofs::Putting::written), unfolding(crate::specs::Lines::too_long_line))]
 pub fn write_too_long(out: &mut [u8; LINES]) -> usize
     ensures { WritesTooLong out.old out.new result }
 {
@@ -84,6 +82,7 @@ pub fn write_inconsistent(out: &mut [u8; LINES]) -> usize
 }
 
 // The file was refused: the refusal's number, and the offset.
+#[tactic(auto, using(crate::proofs::Digits::byte_short, crate::proofs::Digits::offset_short))]
 pub fn write_refused(number: u8, at: usize, out: &mut [u8; LINES]) -> usize
     ensures { WritesRefused number at out.old out.new result }
 {
@@ -95,7 +94,7 @@ pub fn write_refused(number: u8, at: usize, out: &mut [u8; LINES]) -> usize
 }
 
 // A solution was found: every variable's value, and the objective values upwards. It writes nothing for more than 32 or 16 of them.
-#[tactic(auto, using(crate::proofs::Found::values_too_many, crate::proofs::Found::sorted_too_many))]
+#[tactic(auto, using(crate::proofs::Found::values_too_many, crate::proofs::Found::sorted_too_many, crate::proofs::Digits::numbers_short))]
 pub fn write_found(values: &[u8], sorted: &[u8], out: &mut [u8; LINES]) -> usize
     ensures { WritesFound values.now sorted.now out.old out.new result }
 {

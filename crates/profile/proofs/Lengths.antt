@@ -7,8 +7,8 @@ use mathlib.Core.List.{List}
 use Prim.Native.Nat.{ℕ, ◌≤◌, ◌<◌}
 use native.Mathlib.Omega.{arith}
 use native.Mathlib.Decide.{ℕ_discrete, dec_le, dec_lt}
-use borrow.Author.Tests.{lt-ltb, le-ltb, le-leb, lt-leb, eq-eqb, ne_eqb}
-use lib.Dec.{leb, eqb}
+use borrow.Author.Tests.{lt-ltb, le-ltb, eq-eqb, ne_eqb}
+use lib.Dec.{eqb}
 use lib.ListN.{length}
 use Rattle.meaning.specs.Order.{outside, comparable}
 
@@ -34,11 +34,6 @@ module _ (u w : List ℕ) where
       step : (b : Bool) → (b && false) ≡ false
       step true = refl
       step false = refl
-
-pub comparable_small : (u w : List ℕ) → length u ≡ length w → (length u ≡ 0 → ⊥) → leb (length u) 16 ≡ comparable u w
-comparable_small u w e f =
-    by_cases (dec_le (length u) 16) (λ l. le-leb (length u) 16 l ∙ sym (comparable_yes u w e (omega arith) l))
-    (λ l. lt-leb (length u) 16 (omega arith) ∙ sym (not_in_range u w (outside_above 16 (length u) (omega arith))))
 
 pub comparable_lengths : (u w : List ℕ) → comparable u w ≡ true → (length u ≡ length w) × (0 < length u) × (length u ≤ 16)
 comparable_lengths u w e = (

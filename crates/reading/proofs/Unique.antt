@@ -1,29 +1,37 @@
 -- Any two results that a public contract of this crate allows are the same. Assumes nothing.
-use mathlib.Core.Path.{◌≡◌, sym, ap, ap₂, ◌∙◌}
+use mathlib.Core.Path.{◌≡◌, sym, ap, ◌∙◌}
 use mathlib.Core.Bool.{true≢false}
 use mathlib.Core.List.{List}
 use Prim.Native.Nat.{ℕ}
 use Rattle.refusals.specs.declared.Refusal.{Refusal}
 use Rattle.refusals.proofs.Unique.{same_refusal}
-use Rattle.reading.specs.declared.Step.{Step}
-use Rattle.reading.specs.declared.Step.TheVariants.{Fault, Read}
-use Rattle.reading.specs.Reading.{Reading}
+use Rattle.std.specs.Prelude.{Ok, Err}
+use Rattle.reading.specs.Reading.{Reading, Tests, number}
 use Rattle.reading.specs.Steps.{ComesTo}
 use Rattle.reading.specs.Promises.{ComesToAnyNumber, ComesToNumberWithin, ComesToNumberBelow, ComesToName, ComesToEnd}
 use Rattle.reading.proofs.Readings.{fault_of, is_fault, what_or, place_or}
+use Rattle.reading.proofs.Coming.{Step}
 
 -- the steps of one reading
-step_unique : (reading : Reading ℕ) (s t : Step) → ComesTo reading s → ComesTo reading t → s ≡ t
-step_unique reading (Fault r at) (Fault q to) a b =
+step_unique : (reading : Reading ℕ) (s t : Step ℕ) → ComesTo reading s → ComesTo reading t → s ≡ t
+step_unique reading (Err f) (Err g) a b =
     let e = ap fault_of (sym a.told ∙ b.told) in
-    ap₂ Fault (same_refusal r q (ap (λ (p : ℕ × ℕ). p.0) e)) (ap (λ (p : ℕ × ℕ). p.1) e)
-step_unique reading (Fault r at) (Read w q) a b = absurd (true≢false (ap is_fault (sym a.told ∙ b.told.1)))
-step_unique reading (Read v p) (Fault q to) a b = absurd (true≢false (ap is_fault (sym b.told ∙ a.told.1)))
-step_unique reading (Read v p) (Read w q) a b =
+    let r = same_refusal f.refusal g.refusal (ap (λ (p : ℕ × ℕ). p.0) e) in
+    let at = ap (λ (p : ℕ × ℕ). p.1) e in
+    λ i. Err (record { refusal = r i; at = at i })
+step_unique reading (Err f) (Ok s) a b = absurd (true≢false (ap is_fault (sym a.told ∙ b.told.1)))
+step_unique reading (Ok r) (Err g) a b = absurd (true≢false (ap is_fault (sym b.told ∙ a.told.1)))
+step_unique reading (Ok r) (Ok s) a b =
     let e = sym a.told.1 ∙ b.told.1 in
-    ap₂ Read (sym a.told.2 ∙ ap (what_or 0) e ∙ b.told.2) (ap (place_or 0) e)
+    let what = sym a.told.2 ∙ ap (what_or 0) e ∙ b.told.2 in
+    let after = ap (place_or 0) e in
+    λ i. Ok (record { what = what i; after = after i })
 
-module _ (text : List ℕ) (at : ℕ) (r s : Step) where
+module _ (text : List ℕ) (at : ℕ) (r s : Step ℕ) where
+  -- by whatever tests the judge decides
+  pub number_judged_unique : (tests : Tests) → ComesTo (number text tests at) r → ComesTo (number text tests at) s → r ≡ s
+  number_judged_unique tests = step_unique _ r s
+
   pub any_number_unique : ComesToAnyNumber text at r → ComesToAnyNumber text at s → r ≡ s
   any_number_unique = step_unique _ r s
 

@@ -1,28 +1,29 @@
 -- What the functions of `reading` promise: the step r is that of reading on from a place of the text.
-use Rattle.std.specs.Prelude.{List, [], ◌∷◌, ℕ, leb}
+use Rattle.std.specs.Prelude.{List, [], ◌∷◌, ℕ, leb, Result}
 use Rattle.refusals.specs.declared.Refusal.{Refusal}
 use Rattle.refusals.specs.Numbers.{table_of}
-use Rattle.reading.specs.declared.Step.{Step}
+use Rattle.reading.specs.declared.Fault.{Fault}
+use Rattle.reading.specs.declared.Read.{Read}
 use Rattle.reading.specs.Reading.{number, any_number, range, name, ended}
 use Rattle.reading.specs.Steps.{ComesTo}
 
 module _ (text : List ℕ) (at : ℕ) where
   -- any number
-  abbrev pub ComesToAnyNumber : Step → Type 0
+  abbrev pub ComesToAnyNumber : Result (Read ℕ) Fault → Type 0
   ComesToAnyNumber r = ComesTo (number text any_number at) r
 
   -- a number from low to high; a lower one is refused by `below`, a higher one by `above`
-  abbrev pub ComesToNumberWithin : ℕ → Refusal → ℕ → Refusal → Step → Type 0
+  abbrev pub ComesToNumberWithin : ℕ → Refusal → ℕ → Refusal → Result (Read ℕ) Fault → Type 0
   ComesToNumberWithin low below high above r = ComesTo (number text (range low (table_of below) high (table_of above)) at) r
 
   -- a number below the limit; any other is refused by `above`
-  abbrev pub ComesToNumberBelow : ℕ → Refusal → Step → Type 0
+  abbrev pub ComesToNumberBelow : ℕ → Refusal → Result (Read ℕ) Fault → Type 0
   ComesToNumberBelow limit above r = ComesTo (number text (λ v. (leb limit v, table_of above) ∷ []) at) r
 
   -- a name, of which nothing is kept
-  abbrev pub ComesToName : Step → Type 0
+  abbrev pub ComesToName : Result (Read ℕ) Fault → Type 0
   ComesToName r = ComesTo (name text at) r
 
   -- no token is left
-  abbrev pub ComesToEnd : Step → Type 0
+  abbrev pub ComesToEnd : Result (Read ℕ) Fault → Type 0
   ComesToEnd r = ComesTo (ended text at) r

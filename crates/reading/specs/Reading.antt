@@ -1,11 +1,9 @@
 -- Reading a text left to right: the first fault, or what was read.
-use Rattle.std.specs.Prelude.{Bool, cond, List, [], ◌∷◌, ◌++◌, ℕ, zero, suc, ltb, eqb, length}
+use Rattle.std.specs.Prelude.{Bool, cond, List, [], ◌∷◌, ◌++◌, ℕ, zero, suc, ltb, eqb, length, Result, Ok, Err}
 use Rattle.meaning.specs.Refusals as Table
 use Rattle.meaning.specs.Refusals.{Refusal, first}
-use Rattle.text.specs.declared.NumberRead.{NumberRead}
-use Rattle.text.specs.declared.NumberRead.TheVariants.{Malformed, Number}
-use Rattle.text.specs.declared.NameRead.{NameRead}
-use Rattle.text.specs.declared.NameRead.TheVariants.{NoName, Name}
+use Rattle.text.specs.declared.Number.{Number}
+use Rattle.text.specs.declared.Malformed.{Malformed}
 use Rattle.text.specs.Words.{token_start}
 use Rattle.text.specs.Tokens.{number_at, name_at}
 
@@ -39,13 +37,13 @@ range low below high above v = (ltb v low, below) ∷ (ltb high v, above) ∷ []
 abbrev pub judged : {A : Type 0} → List (Bool × Refusal) → ℕ → Reading A → Reading A
 judged tests at reading = cond (eqb (first tests) 0) reading (fault (first tests) at)
 
-abbrev pub number_judged : Tests → NumberRead → Reading ℕ
-number_judged tests (Malformed start) = fault (Table.number Table.malformed) start
-number_judged tests (Number value start after) = judged (tests value) start (got value after)
+abbrev pub number_judged : Tests → Result Number Malformed → Reading ℕ
+number_judged tests (Err m) = fault (Table.number Table.malformed) m.start
+number_judged tests (Ok n) = judged (tests n.value) n.start (got n.value n.after)
 
-abbrev pub name_judged : NameRead → Reading ℕ
-name_judged (NoName start) = fault (Table.number Table.malformed) start
-name_judged (Name after) = got 0 after
+abbrev pub name_judged : Result ℕ Malformed → Reading ℕ
+name_judged (Err m) = fault (Table.number Table.malformed) m.start
+name_judged (Ok after) = got 0 after
 
 module _ (text : List ℕ) where
   -- the next token is a number, and passes the tests

@@ -1,36 +1,74 @@
 // Reading a text left to right: the next number or name, with the tests that it has to pass.
 #![tactic(auto)]
 
+ghost use Rattle.std.specs.Prelude.{◌≡◌, ℕ, ◌^◌, ◌<◌};
+ghost use Rattle.reading.specs.Reading.{Tests, number};
+ghost use Rattle.reading.specs.Steps.{ComesTo, Judges};
 ghost use Rattle.reading.specs.Promises.{ComesToAnyNumber, ComesToNumberWithin, ComesToNumberBelow, ComesToName, ComesToEnd};
+ghost use Rattle.refusals.specs.declared.Refusal.TheVariants as Wrong;
 
 use refusals::Refusal;
-use text::{NameRead, NumberRead, read_name, read_number, skip_blanks};
+use text::{Malformed, read_name, read_number, skip_blanks};
 
-// How far the reading came: a fault, at a byte; or a number, and the place after it.
+// Why the reading stops, and at which byte.
 #[derive(Clone, Copy)]
-pub enum Step {
-    Fault(Refusal, usize),
-    Read(usize, usize),
+pub struct Fault {
+    pub refusal: Refusal,
+    pub at: usize,
 }
 
-// Any number.
-#[tactic(auto, unfolding(crate::specs::Reading::number, meaning::specs::Refusals::first))]
-pub fn any_number(text: &[u8], at: usize) -> Step
-    ensures { ComesToAnyNumber text.now at result }
-{
-    let read = read_number(text, at);
-    match read {
-        NumberRead::Malformed { start } => Step::Fault(Refusal::Malformed, start),
-        NumberRead::Number {
-            value,
-            start: _,
-            after,
-        } => Step::Read(value as usize, after),
+impl From<Malformed> for Fault {
+    ghost from_gives = { λ m f. f ≡ record { refusal = Wrong.Malformed; at = m.start } };
+
+    fn from(malformed: Malformed) -> Fault {
+        Fault {
+            refusal: Refusal::Malformed,
+            at: malformed.start,
+        }
     }
 }
 
+// What was read, and the place after it.
+#[derive(Clone, Copy, Debug, PartialEq, Eq)]
+pub struct Read<T> {
+    pub what: T,
+    pub after: usize,
+}
+
+// How far the reading came: a fault, or something read.
+pub type Step<T> = Result<Read<T>, Fault>;
+
+// A number that a judge lets through; what the judge refuses is reported at the number's first byte.
+pub fn number_judged<J: FnOnce(usize) -> Result<(), Refusal>>(
+    text: &[u8],
+    at: usize,
+    judge: J,
+) -> Step<usize>
+    requires { (v : ℕ) → v < 2 ^ 32 → J.pre judge v }
+    ensures { (tests : Tests) → ((v : ℕ) → v < 2 ^ 32 → Judges (J.post judge v) (tests v)) → ComesTo (number text.now tests at) result }
+{
+    let number = read_number(text, at)?;
+    let what = number.value as usize;
+    match judge(what) {
+        Ok(()) => Ok(Read {
+            what,
+            after: number.after,
+        }),
+        Err(refusal) => Err(Fault {
+            refusal,
+            at: number.start,
+        }),
+    }
+}
+
+// Any number.
+pub fn any_number(text: &[u8], at: usize) -> Step<usize>
+    ensures { ComesToAnyNumber text.now at result }
+{
+    number_judged(text, at, |_| Ok(()))
+}
+
 // A number from low to high.
-#[tactic(auto, unfolding(crate::specs::Reading::number, meaning::specs::Refusals::first))]
 pub fn number_within(
     text: &[u8],
     at: usize,
@@ -38,71 +76,48 @@ pub fn number_within(
     below: Refusal,
     high: usize,
     above: Refusal,
-) -> Step
+) -> Step<usize>
     ensures { ComesToNumberWithin text.now at low below high above result }
 {
-    let read = read_number(text, at);
-    match read {
-        NumberRead::Malformed { start } => Step::Fault(Refusal::Malformed, start),
-        NumberRead::Number {
-            value,
-            start,
-            after,
-        } => {
-            let v = value as usize;
-            if v < low {
-                return Step::Fault(below, start);
-            }
-            if high < v {
-                return Step::Fault(above, start);
-            }
-            Step::Read(v, after)
+    number_judged(text, at, |value| {
+        if value < low {
+            Err(below)
+        } else if high < value {
+            Err(above)
+        } else {
+            Ok(())
         }
-    }
+    })
 }
 
 // A number below the limit.
-#[tactic(auto, unfolding(crate::specs::Reading::number, meaning::specs::Refusals::first))]
-pub fn number_below(text: &[u8], at: usize, limit: usize, above: Refusal) -> Step
+pub fn number_below(text: &[u8], at: usize, limit: usize, above: Refusal) -> Step<usize>
     ensures { ComesToNumberBelow text.now at limit above result }
 {
-    let read = read_number(text, at);
-    match read {
-        NumberRead::Malformed { start } => Step::Fault(Refusal::Malformed, start),
-        NumberRead::Number {
-            value,
-            start,
-            after,
-        } => {
-            let v = value as usize;
-            if limit <= v {
-                return Step::Fault(above, start);
-            }
-            Step::Read(v, after)
-        }
-    }
+    number_judged(
+        text,
+        at,
+        |value| if limit <= value { Err(above) } else { Ok(()) },
+    )
 }
 
-// A name; nothing of it is kept.
+// A name; nothing of it is kept, so what is read is 0.
 #[tactic(auto, unfolding(crate::specs::Reading::name))]
-pub fn skip_name(text: &[u8], at: usize) -> Step
+pub fn skip_name(text: &[u8], at: usize) -> Step<usize>
     ensures { ComesToName text.now at result }
 {
-    let read = read_name(text, at);
-    match read {
-        NameRead::NoName { start } => Step::Fault(Refusal::Malformed, start),
-        NameRead::Name { after } => Step::Read(0, after),
-    }
+    let after = read_name(text, at)?;
+    Ok(Read { what: 0, after })
 }
 
-// No token is left.
+// No token is left, so what is read is 0.
 #[tactic(auto, unfolding(crate::specs::Reading::ended))]
-pub fn read_end(text: &[u8], at: usize) -> Step
+pub fn read_end(text: &[u8], at: usize) -> Step<usize>
     ensures { ComesToEnd text.now at result }
 {
     let start = skip_blanks(text, at);
     if start != text.len() {
-        return Step::Fault(Refusal::Malformed, start);
+        return Err(Malformed { start }.into());
     }
-    Step::Read(0, at)
+    Ok(Read { what: 0, after: at })
 }

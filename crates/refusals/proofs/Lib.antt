@@ -1,2 +1,2 @@
--- What the proofs of `numbers` add.
+-- What the proofs of `refusals` add.
 pub mod Unique

@@ -8,8 +8,7 @@ use Rattle.meaning.specs.Refusals.{number}
 use Rattle.meaning.proofs.Proper.{number_above}
 use Rattle.refusals.specs.declared.Refusal.{Refusal}
 use Rattle.refusals.specs.declared.Refusal.TheVariants.{NoSuchVariable, VariableTwice, WrongLength, OutOfRange, TupleTwice, Full, Malformed, NotLeft, TooManyDecisions, TooDeep, ShortBuffer, NoObjective, Decided}
-use Rattle.refusals.specs.declared.Answer.{Answer}
-use Rattle.refusals.specs.declared.Answer.TheVariants.{Accepted, Refused}
+use Rattle.std.specs.Prelude.{Result, Ok, Err}
 use Rattle.refusals.specs.Numbers.{table_of, IsNumberOf, number_of}
 
 pub number_of_unique : (refusal : Refusal) (r s : ℕ) → IsNumberOf refusal r → IsNumberOf refusal s → r ≡ s
@@ -47,8 +46,9 @@ same_refusal r q e = sym (named_number r) ∙ ap named e ∙ named_number q
 pub not_accepted : {A : Type 0} (r : Refusal) → number (table_of r) ≡ 0 → A
 not_accepted r e = let p = number_above (table_of r) in absurd (omega arith)
 
-pub answer_unique : (a b : Answer) → number_of a ≡ number_of b → a ≡ b
-answer_unique Accepted Accepted e = refl
-answer_unique Accepted (Refused q) e = not_accepted q (sym e)
-answer_unique (Refused r) Accepted e = not_accepted r e
-answer_unique (Refused r) (Refused q) e = ap Refused (same_refusal r q e)
+-- where accepted calls have nothing to say
+pub answer_unique : (a b : Result Unit Refusal) → number_of a ≡ number_of b → a ≡ b
+answer_unique (Ok a) (Ok b) e = refl
+answer_unique (Ok a) (Err q) e = not_accepted q (sym e)
+answer_unique (Err r) (Ok b) e = not_accepted r e
+answer_unique (Err r) (Err q) e = ap Err (same_refusal r q e)

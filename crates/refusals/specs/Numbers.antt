@@ -1,10 +1,8 @@
 -- The refusals of the code in document 01's table, and the numbers that answers say.
-use Rattle.std.specs.Prelude.{◌≡◌, ℕ}
+use Rattle.std.specs.Prelude.{◌≡◌, List, ℕ, decimal, Result, Ok, Err}
 use Rattle.meaning.specs.Refusals as Table
 use Rattle.refusals.specs.declared.Refusal.{Refusal}
 use Rattle.refusals.specs.declared.Refusal.TheVariants.{NoSuchVariable, VariableTwice, WrongLength, OutOfRange, TupleTwice, Full, Malformed, NotLeft, TooManyDecisions, TooDeep, ShortBuffer, NoObjective, Decided}
-use Rattle.refusals.specs.declared.Answer.{Answer}
-use Rattle.refusals.specs.declared.Answer.TheVariants.{Accepted, Refused}
 
 -- document 01's table
 abbrev pub table_of : Refusal → Table.Refusal
@@ -26,7 +24,11 @@ table_of Decided = Table.decided
 abbrev pub IsNumberOf : Refusal → ℕ → Type 0
 IsNumberOf refusal r = r ≡ Table.number (table_of refusal)
 
--- the number that an answer says, 0 where the call is accepted
-abbrev pub number_of : Answer → ℕ
-number_of Accepted = 0
-number_of (Refused r) = Table.number (table_of r)
+-- what is printed of it: that number's digits
+abbrev pub printed : Refusal → List ℕ
+printed refusal = decimal (Table.number (table_of refusal))
+
+-- the number that an answer says, 0 where the call is not refused
+abbrev pub number_of : {A : Type 0} → Result A Refusal → ℕ
+number_of (Ok a) = 0
+number_of (Err r) = Table.number (table_of r)

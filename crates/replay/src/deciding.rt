@@ -1,53 +1,31 @@
-// Pins, bans and take-backs.
-ghost use Rattle.std.specs.Prelude.{◌≤◌, length};
-ghost use Rattle.state.specs.Holds.{Reached};
+// Pins, bans and take-backs, on the state that the program keeps and lends to `desk` for each.
+use crate::faults::BadLine;
+use crate::keeping::Desk;
+use crate::numbers::number;
+use crate::saying::Reply;
+use crate::words::Words;
 
-use crate::call_arguments::{last_number, last_pair};
-use crate::digits::MOST;
-use crate::keeping::{Desk, stopped, with_state};
-use crate::{lending, saying};
+// `VARIABLE VALUE`, the rest of the line.
+fn variable_and_value(mut words: Words) -> Result<(u8, u8), BadLine> {
+    let variable = number(words.word()?)?;
+    let value = number(words.only()?)?;
+    Ok((variable, value))
+}
 
 // `pin VARIABLE VALUE`
-pub(crate) fn pin(rt: &impl Print, desk: Desk, line: &[u8], at: usize) -> Desk
-    requires { Reached desk.state × (at ≤ length line.now) }
-    ensures { Reached result.state }
-{
-    let pair = last_pair(line, at);
-    if !pair.fits {
-        return stopped(desk);
-    }
-    let after = lending::pin(desk.state, pair.variable, pair.value);
-    let answer = after.answer;
-    saying::decided(rt, answer);
-    with_state(desk, after.state)
+pub(crate) fn pin(desk: &mut Desk, words: Words) -> Result<Reply, BadLine> {
+    let (variable, value) = variable_and_value(words)?;
+    Ok(desk::pin(&mut desk.state, variable, value).into())
 }
 
 // `ban VARIABLE VALUE`
-pub(crate) fn ban(rt: &impl Print, desk: Desk, line: &[u8], at: usize) -> Desk
-    requires { Reached desk.state × (at ≤ length line.now) }
-    ensures { Reached result.state }
-{
-    let pair = last_pair(line, at);
-    if !pair.fits {
-        return stopped(desk);
-    }
-    let after = lending::ban(desk.state, pair.variable, pair.value);
-    let answer = after.answer;
-    saying::decided(rt, answer);
-    with_state(desk, after.state)
+pub(crate) fn ban(desk: &mut Desk, words: Words) -> Result<Reply, BadLine> {
+    let (variable, value) = variable_and_value(words)?;
+    Ok(desk::ban(&mut desk.state, variable, value).into())
 }
 
 // `back DEPTH`
-pub(crate) fn take_back(rt: &impl Print, desk: Desk, line: &[u8], at: usize) -> Desk
-    requires { Reached desk.state × (at ≤ length line.now) }
-    ensures { Reached result.state }
-{
-    let depth = last_number(line, at, MOST);
-    if !depth.fits {
-        return stopped(desk);
-    }
-    let after = lending::take_back(desk.state, depth.value as usize);
-    let answer = after.answer;
-    saying::answered(rt, answer);
-    with_state(desk, after.state)
+pub(crate) fn take_back(desk: &mut Desk, words: Words) -> Result<Reply, BadLine> {
+    let depth = number(words.only()?)?;
+    Ok(desk::take_back(&mut desk.state, depth).into())
 }

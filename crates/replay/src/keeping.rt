@@ -1,79 +1,60 @@
 // What the program keeps between the lines of a script.
-ghost use Rattle.std.specs.Prelude.{◌≤◌, length};
 ghost use Rattle.state.specs.Holds.{Reached};
 
-use crate::saying;
-use crate::words::is_over;
-use refusals::Answer;
-use state::State;
+use crate::faults::BadLine;
+use crate::saying::Reply;
+use crate::words::Words;
+use refusals::Refusal;
+use state::{AfterCall, State};
+use std::marker::Model;
 
-#[derive(Clone, Copy)]
+#[derive(Drop)]
 pub(crate) struct Desk {
     pub(crate) state: State,
     // how many were added
     pub(crate) variables: usize,
-    // whether each line so far was a call
-    pub(crate) going: bool,
 }
 
-pub(crate) fn new() -> Desk
-    ensures { Reached result.state }
-{
-    let state = setup::new();
-    Desk {
-        state,
-        variables: 0,
-        going: true,
+// Calls on a new state have left the state that is kept, so that it may be lent to any other.
+impl Model for Desk {
+    ghost use Rattle.std.specs.Prelude.{◌≤◌};
+    ghost use Rattle.state.specs.declared.State.{State};
+    ghost use Rattle.state.specs.Holds.{Reached};
+
+    ghost Value = { State };
+
+    ghost view = { λ d. d.state };
+
+    ghost invariant = { λ d. Reached d.state × (d.variables ≤ 32) };
+}
+
+impl Desk {
+    pub(crate) fn new() -> Self {
+        Desk {
+            state: setup::new(),
+            variables: 0,
+        }
     }
-}
 
-// The line is no call.
-pub(crate) fn stopped(desk: Desk) -> Desk
-    requires { Reached desk.state }
-    ensures { Reached result.state }
-{
-    let state = desk.state;
-    Desk {
-        state,
-        variables: desk.variables,
-        going: false,
+    // A variable was asked for and answered so; the library takes no more than 32.
+    pub(crate) fn count(&mut self, answer: Result<(), Refusal>) {
+        if answer.is_ok() && self.variables < meaning::VARIABLES {
+            self.variables += 1;
+        }
     }
-}
 
-// The call left this state.
-pub(crate) fn with_state(desk: Desk, state: State) -> Desk
-    requires { Reached state }
-    ensures { Reached result.state }
-{
-    Desk {
-        state,
-        variables: desk.variables,
-        going: desk.going,
+    // Keeps the state that a call has left, and hands on what the call answered.
+    pub(crate) fn keep(&mut self, after: AfterCall) -> Reply
+        requires { Reached after.state }
+    {
+        self.state = after.state;
+        after.answer.into()
     }
 }
 
 // `new`: nothing stands any more.
-pub(crate) fn renewed(rt: &impl Print, desk: Desk, line: &[u8], at: usize) -> Desk
-    requires { Reached desk.state × (at ≤ length line.now) }
-    ensures { Reached result.state }
-{
-    if !is_over(line, at) {
-        return stopped(desk);
-    }
-    saying::say(rt, b"ok\n");
-    new()
-}
-
-// How many variables there are after one more was asked for; the library takes no more than 32.
-pub(crate) fn counted(variables: usize, answer: Answer) -> usize {
-    match answer {
-        Answer::Accepted => {
-            if variables < meaning::VARIABLES {
-                variables + 1
-            } else {
-                variables
-            }
-        }
-        Answer::Refused(_) => variables,
-    }
+pub(crate) fn renew(desk: &mut Desk, words: Words) -> Result<Reply, BadLine> {
+    words.end()?;
+    *desk = Desk::new();
+    Ok(Reply::Done)
 }

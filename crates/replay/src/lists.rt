@@ -1,94 +1,43 @@
 // Lists of numbers in a line.
-ghost use Rattle.std.specs.Prelude.{◌≡◌, ◌≤◌, length};
-ghost use Rattle.std.specs.Counts.{IsPrefixLen};
+ghost use Rattle.std.specs.Prelude.{IfOk, ◌≤◌, length};
 
-use crate::call_arguments::{number_in, signed_in};
-use crate::words::{is_word, next_word};
+use crate::faults::BadLine;
+use crate::numbers::number;
+use crate::words::Words;
+use std::num::ParseIntError;
+use std::str::FromStr;
 
 // More numbers than a line can hold, each with a blank before it.
 pub(crate) const NUMBERS: usize = 16_384;
 
-// How many numbers stand in the list, and the place after the word that ends it.
-#[derive(Clone, Copy)]
-pub(crate) struct List {
-    pub(crate) fits: bool,
-    pub(crate) count: usize,
-    pub(crate) after: usize,
+// The word that ends a list which is not the line's last.
+pub(crate) const COLON: Option<&[u8]> = Some(b":");
+
+// Reads numbers up to the word `end`, or to the line's end, and hands back the part of the room that they fill.
+pub(crate) fn read<'r, T: FromStr<Err = ParseIntError> + Drop>(
+    words: &mut Words,
+    end: Option<&[u8]>,
+    room: &'r mut [T],
+) -> Result<&'r [T], BadLine> {
+    let count = fill(words, end, room)?;
+    let (list, _) = room.split_at(count);
+    Ok(list)
 }
 
-// Room for a list of bytes.
-pub(crate) fn bytes() -> [u8; NUMBERS]
-    ensures { 16384 ≡ length result }
+// Puts the same numbers at the room's start, and answers how many they are.
+fn fill<T: FromStr<Err = ParseIntError> + Drop>(
+    words: &mut Words,
+    end: Option<&[u8]>,
+    room: &mut [T],
+) -> Result<usize, BadLine>
+    ensures { IfOk result (λ count. count ≤ length room.new) }
 {
-    [0; NUMBERS]
-}
-
-// Room for a list of numbers with signs.
-pub(crate) fn integers() -> [i32; NUMBERS]
-    ensures { 16384 ≡ length result }
-{
-    [0; NUMBERS]
-}
-
-// Reads the numbers from `at` on up to the word `end`, `:` or the empty word that is the line's end.
-pub(crate) fn read_bytes(line: &[u8], at: usize, end: &[u8], out: &mut [u8]) -> List
-    requires { at ≤ length line.now }
-    ensures { IsPrefixLen result.count out.new × (result.after ≤ length line.now) }
-{
-    let mut count = 0;
-    let mut from = at;
-    while count < out.len() {
-        let word = next_word(line, from);
-        from = word.end;
-        if is_word(line, word, end) {
-            return List {
-                fits: true,
-                count,
-                after: from,
-            };
+    for (count, place) in room.iter_mut().enumerate() {
+        let word = words.next();
+        if word == end {
+            return Ok(count);
         }
-        let n = number_in(line, word, 255);
-        if !n.fits {
-            break;
-        }
-        out[count] = n.value as u8;
-        count += 1;
+        *place = number(word.ok_or(BadLine)?)?;
     }
-    List {
-        fits: false,
-        count: 0,
-        after: at,
-    }
-}
-
-// The same with signs.
-pub(crate) fn read_integers(line: &[u8], at: usize, end: &[u8], out: &mut [i32]) -> List
-    requires { at ≤ length line.now }
-    ensures { (result.count ≤ length out.new) × (result.after ≤ length line.now) }
-{
-    let mut count = 0;
-    let mut from = at;
-    while count < out.len() {
-        let word = next_word(line, from);
-        from = word.end;
-        if is_word(line, word, end) {
-            return List {
-                fits: true,
-                count,
-                after: from,
-            };
-        }
-        let n = signed_in(line, word);
-        if !n.fits {
-            break;
-        }
-        let value = n.value;
-        out[count] = value;
-        count += 1;
-    }
-    List {
-        fits: false,
-        count: 0,
-        after: at,
-    }
+    Err(BadLine)
 }

@@ -1,54 +1,51 @@
-// The lines that the program writes.
-use decide::DecisionAnswer;
-use refusals::{Answer, Refusal};
+// The lines that answer the calls of a script.
+use refusals::Refusal;
+use std::fmt;
 
-pub(crate) fn say(rt: &impl Print, text: &[u8]) {
-    let _ = rt.write_all(text);
+// The most places of a buffer that is lent for solving; more than the 32 that solving may write are all the same.
+pub(crate) const PLACES: usize = 64;
+
+// What a call answers.
+#[derive(Clone, Copy)]
+pub(crate) enum Reply {
+    Done,
+    Refused(Refusal),
+    // the set of values
+    Left(u64),
+    // so many values, at the places' start
+    Found([u8; PLACES], usize),
+    Inconsistent,
+    First,
+    Second,
+    Empty,
 }
 
-// Writes a number, with no line end.
-fn say_number(rt: &impl Print, n: u64) {
-    let _ = print!(rt; "{n}");
-}
-
-pub(crate) fn too_long(rt: &impl Print) {
-    say(rt, b"too long\n");
-}
-
-pub(crate) fn bad_script(rt: &impl Print, at: usize) {
-    say(rt, b"bad script at ");
-    say_number(rt, at as u64);
-    say(rt, b"\n");
-}
-
-pub(crate) fn refused(rt: &impl Print, refusal: Refusal) {
-    say(rt, b"refused ");
-    say_number(rt, refusals::number_of(refusal) as u64);
-    say(rt, b"\n");
-}
-
-pub(crate) fn answered(rt: &impl Print, answer: Answer) {
-    match answer {
-        Answer::Accepted => say(rt, b"ok\n"),
-        Answer::Refused(refusal) => refused(rt, refusal),
+impl From<Result<(), Refusal>> for Reply {
+    fn from(answer: Result<(), Refusal>) -> Self {
+        match answer {
+            Ok(()) => Reply::Done,
+            Err(refusal) => Reply::Refused(refusal),
+        }
     }
 }
 
-pub(crate) fn decided(rt: &impl Print, answer: DecisionAnswer) {
-    match answer {
-        DecisionAnswer::Accepted => say(rt, b"ok\n"),
-        DecisionAnswer::Refused(refusal) => refused(rt, refusal),
+impl fmt::Display for Reply {
+    fn fmt<W: fmt::Write>(&self, f: &mut fmt::Formatter<W>) -> fmt::Result {
+        match self {
+            Reply::Done => f.write_str("ok"),
+            Reply::Refused(refusal) => write!(f, "refused {refusal}"),
+            Reply::Left(mask) => write!(f, "left {mask:016x}"),
+            Reply::Found(places, count) => {
+                f.write_str("found")?;
+                for value in places.iter().take(*count) {
+                    write!(f, " {value}")?;
+                }
+                Ok(())
+            }
+            Reply::Inconsistent => f.write_str("inconsistent"),
+            Reply::First => f.write_str("first"),
+            Reply::Second => f.write_str("second"),
+            Reply::Empty => f.write_str("empty"),
+        }
     }
-}
-
-pub(crate) fn left(rt: &impl Print, mask: u64) {
-    say(rt, b"left ");
-    let _ = print!(rt; "{mask:016x}");
-    say(rt, b"\n");
-}
-
-// Writes a value after one space.
-pub(crate) fn say_field(rt: &impl Print, value: u8) {
-    say(rt, b" ");
-    say_number(rt, value as u64);
 }

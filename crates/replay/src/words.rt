@@ -1,60 +1,57 @@
 // The words of a line: the longest runs without a blank.
-ghost use Rattle.std.specs.Prelude.{◌≤◌, length};
+ghost use Rattle.std.specs.Prelude.{length};
+ghost use Rattle.std.specs.Iterator.{at_most};
 
+use crate::faults::BadLine;
 use text::ByteSort;
 
-// Where a word begins and ends; it is empty where the line has no word more.
+// The words in what is left of a line.
 #[derive(Clone, Copy)]
-pub(crate) struct Word {
-    pub(crate) start: usize,
-    pub(crate) end: usize,
+pub(crate) struct Words<'a> {
+    rest: &'a [u8],
 }
 
 fn is_blank(byte: u8) -> bool {
-    match text::sort_of(byte) {
-        ByteSort::Blank => true,
-        _ => false,
-    }
+    matches!(text::sort_of(byte), ByteSort::Blank)
 }
 
-// The place after the word that begins at `start`.
-fn word_end(line: &[u8], start: usize) -> usize
-    requires { start ≤ length line.now }
-    ensures { (start ≤ result) × (result ≤ length line.now) }
-{
-    let mut end = start;
-    while end < line.len() {
-        if is_blank(line[end]) {
-            return end;
+impl<'a> Words<'a> {
+    pub(crate) fn of(line: &'a [u8]) -> Self {
+        Words { rest: line }
+    }
+
+    // The next word, where there is one.
+    pub(crate) fn word(&mut self) -> Result<&'a [u8], BadLine> {
+        self.next().ok_or(BadLine)
+    }
+
+    // The line has no word more.
+    pub(crate) fn end(mut self) -> Result<(), BadLine> {
+        match self.next() {
+            None => Ok(()),
+            Some(_) => Err(BadLine),
         }
-        end += 1;
     }
-    end
+
+    // The only word left.
+    pub(crate) fn only(mut self) -> Result<&'a [u8], BadLine> {
+        let word = self.word()?;
+        self.end()?;
+        Ok(word)
+    }
 }
 
-// The next word from `at` on.
-pub(crate) fn next_word(line: &[u8], at: usize) -> Word
-    requires { at ≤ length line.now }
-    ensures { (result.start ≤ result.end) × (result.end ≤ length line.now) }
-{
-    let start = text::skip_blanks(line, at);
-    let end = word_end(line, start);
-    Word { start, end }
-}
+impl<'a> Iterator for Words<'a> {
+    type Item = &'a [u8];
 
-// Whether the word reads so.
-pub(crate) fn is_word(line: &[u8], word: Word, name: &[u8]) -> bool
-    requires { (word.start ≤ word.end) × (word.end ≤ length line.now) }
-{
-    let start = word.start;
-    let end = word.end;
-    tuples::are_same(&line[start..end], name)
-}
+    ghost remaining = { λ s. at_most (length s.rest.now) };
 
-// Whether the line has no word from `at` on.
-pub(crate) fn is_over(line: &[u8], at: usize) -> bool
-    requires { at ≤ length line.now }
-{
-    let word = next_word(line, at);
-    word.start == word.end
+    fn next(&mut self) -> Option<&'a [u8]> {
+        let start = self.rest.iter().position(|byte| !is_blank(*byte))?;
+        let from = &self.rest[start..];
+        let more = from[1..].iter().take_while(|byte| !is_blank(**byte));
+        let (word, rest) = from.split_at(1 + more.count());
+        self.rest = rest;
+        Some(word)
+    }
 }

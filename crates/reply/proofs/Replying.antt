@@ -10,13 +10,13 @@ use Rattle.meaning.specs.Standing.{Standing}
 use Rattle.meaning.specs.Calls.{name_objectives}
 use Rattle.meaning.specs.Histories.{call}
 use Rattle.meaning.proofs.Proper.{number_above}
-use Rattle.refusals.specs.declared.Refusal.{Refusal}
 use Rattle.state.specs.Holds.{Reached}
 use Rattle.refusals.specs.Numbers.{table_of}
 use Rattle.state.proofs.Holding.{current}
 use Rattle.state.proofs.Runs.{run_holds, run_reached}
 use Rattle.wcsp.specs.declared.Loaded.{Loaded}
-use Rattle.wcsp.specs.declared.Outcome.TheVariants.{Accepted, Refused}
+use Rattle.std.specs.Prelude.{Ok, Err, ⊤}
+use Rattle.reading.specs.declared.Fault.{Fault}
 use Rattle.wcsp.specs.Files.{values_below}
 use Rattle.reading.specs.Steps.{number_of}
 use Rattle.wcsp.specs.Promises.{Reads, said}
@@ -29,21 +29,21 @@ use Rattle.reply.specs.Replies.{objectives_of, Tells, Replies, SolvedLines}
 use Rattle.reply.proofs.Naming.{named_stands}
 
 module _ (text : List ℕ) (loaded : Loaded) (reads : Reads text loaded) where
-  pub refused_replies : {before after : List ℕ} {count : ℕ} {r : Refusal} {at k : ℕ} → loaded.outcome ≡ Refused r at → k ≡ number_of r → Written before (refused_line k at) after count → Replies text before after count
-  refused_replies {before} {after} {count} {r} {at} {k} e is written =
-      let said_is : said loaded.outcome ≡ (number_of r, at) = ap said e in
+  pub refused_replies : {before after : List ℕ} {count : ℕ} {f : Fault} {k : ℕ} → loaded.outcome ≡ Err f → k ≡ number_of f.refusal → Written before (refused_line k f.at) after count → Replies text before after count
+  refused_replies {before} {after} {count} {f} {k} e is written =
+      let said_is : said loaded.outcome ≡ (number_of f.refusal, f.at) = ap said e in
       record {
         fits = written_fits written;
         refused = λ number spot q.
-            let same : ◌≡◌ {A = ℕ × ℕ} (number_of r, at) (number, spot) = sym said_is ∙ (reads.refused number spot q).0 in
+            let same : ◌≡◌ {A = ℕ × ℕ} (number_of f.refusal, f.at) (number, spot) = sym said_is ∙ (reads.refused number spot q).0 in
             subst (λ (line : List ℕ). Written before line after count)
             (ap₂ refused_line (is ∙ ap (λ (x : ℕ × ℕ). x.0) same) (ap (λ (x : ℕ × ℕ). x.1) same)) written;
-        accepted = λ f place q.
-            let none : number_of r ≡ 0 = ap (λ (x : ℕ × ℕ). x.0) (sym said_is ∙ (reads.accepted f place q).0) in
-            absurd (omega (arith, none, number_above (table_of r)));
+        accepted = λ g place q.
+            let none : number_of f.refusal ≡ 0 = ap (λ (x : ℕ × ℕ). x.0) (sym said_is ∙ (reads.accepted g place q).0) in
+            absurd (omega (arith, none, number_above (table_of f.refusal)));
       }
 
-  module _ (e : loaded.outcome ≡ Accepted) where
+  module _ {v : ⊤} (e : loaded.outcome ≡ Ok v) where
     pub may_solve : Reached loaded.state × (0 < loaded.variables) × (loaded.variables ≤ variable_limit)
     may_solve =
         let (f, place, q) = reads.only (ap said e) in

@@ -24,6 +24,7 @@ use Rattle.profile.specs.declared.Sorted.{Sorted}
 use Rattle.profile.specs.Upwards.{SortedUp, kept, padded}
 use Rattle.refusals.specs.declared.Refusal.{Refusal}
 use Rattle.state.specs.declared.State.{State}
+use Rattle.std.specs.Prelude.{Result, Ok, Err}
 use Rattle.leximin.specs.declared.Solved.{Solved}
 use Rattle.leximin.specs.declared.Solved.TheVariants as Solveds
 use Rattle.refusals.specs.Numbers.{table_of}
@@ -84,7 +85,7 @@ first_are n count e = upwards_more 0 count 16 (omega (arith, e)) ∙ ap (upwards
 -- ---- what solving says, as lines
 
 module _ (w : Standing) (n : ℕ) (declared : length w.declared ≡ n) (named : w.objectives ≡ objectives_of n) {buffer values before after : List ℕ} {r : ℕ} where
-  pub found_tells : SolvedAs w buffer Solveds.Found values → Written before (found_lines (take n values) (sorted (take (min n objective_limit) values))) after r → Tells w before after r
+  pub found_tells : SolvedAs w buffer (Ok Solveds.Found) values → Written before (found_lines (take n values) (sorted (take (min n objective_limit) values))) after r → Tells w before after r
   found_tells s written =
       let o = s.outcome in
       let long : length o.rota ≡ n = o.answer.solution.long ∙ declared in
@@ -99,14 +100,14 @@ module _ (w : Standing) (n : ℕ) (declared : length w.declared ≡ n) (named : 
             (subst (λ (t : List ℕ). Written before t after r) (ap₂ (λ (u p : List ℕ). found_lines u (sorted p)) front ups) written);
       }
 
-  pub none_tells : SolvedAs w buffer Solveds.Inconsistent values → Written before inconsistent_line after r → Tells w before after r
+  pub none_tells : SolvedAs w buffer (Ok Solveds.Inconsistent) values → Written before inconsistent_line after r → Tells w before after r
   none_tells s written = record {
     inconsistent = λ none. written;
     found = λ a answer. absurd (s.outcome.none a answer.solution);
   }
 
   -- there are objectives, and the buffer is long enough
-  pub never_refused : (x : Refusal) → 0 < n → n ≤ length buffer → SolvedAs w buffer (Solveds.Refused x) values → Tells w before after r
+  pub never_refused : (x : Refusal) → 0 < n → n ≤ length buffer → SolvedAs w buffer (Err x) values → Tells w before after r
   unfolding first
   never_refused x some fits s =
       let objectives : ¬ (length w.objectives ≡ 0) = λ e. omega (arith, ap length named, upwards_long 0 (min n objective_limit)) in
@@ -119,8 +120,8 @@ module _ (w : Standing) (n : ℕ) (declared : length w.declared ≡ n) (named : 
 -- ---- once the objectives are named, solving tells of what stands
 
 module _ (state ready : State) (n count number : ℕ) (counted : count ≡ min n objective_limit) (answers : Answers state (name_objectives (take count (upwards 0 16))) number ready) where
-  pub told : {buffer values : List ℕ} {r outcome : Solved} → Solves ready buffer r values → r ≡ outcome → (h : List Call) (w : Standing) → Run h state
+  pub told : {buffer values : List ℕ} {r outcome : Result Solved Refusal} → Solves ready buffer r values → r ≡ outcome → (h : List Call) (w : Standing) → Run h state
       → Leaves (name_objectives (objectives_of n) ∷ h) w → SolvedAs w buffer outcome values
   told {buffer} {values} solves e h w run l =
       let now = step (name_objectives (objectives_of n)) number run (subst (λ (xs : List ℕ). Answers state (name_objectives xs) number ready) (first_are n count counted) answers) in
-      subst (λ (r : Solved). SolvedAs w buffer r values) e (solves (name_objectives (objectives_of n) ∷ h) w l (run_stands w now l))
+      subst (λ (r : Result Solved Refusal). SolvedAs w buffer r values) e (solves (name_objectives (objectives_of n) ∷ h) w l (run_stands w now l))

@@ -12,9 +12,7 @@ ghost use Rattle.reply.specs.Replies.{Replies, Answers, SolvedLines};
 use leximin::Solved;
 use lines::LINES;
 use meaning::{OBJECTIVES, VARIABLES};
-use refusals::number_of;
 use state::State;
-use wcsp::Outcome;
 
 // The most bytes that the program reads.
 pub const TEXT: usize = 32_768;
@@ -23,7 +21,7 @@ pub const TEXT: usize = 32_768;
 fn objective_count(n: usize) -> usize
     ensures { result ≡ min n objective_limit }
 {
-    if n < OBJECTIVES { n } else { OBJECTIVES }
+    n.min(OBJECTIVES)
 }
 
 // Writes the best rota of n variables, with the values of the first 16 or fewer upwards.
@@ -49,9 +47,9 @@ fn write_solved(state: State, n: usize, out: &mut [u8; LINES]) -> usize
     let mut values = [0u8; VARIABLES];
     let solved = leximin::solve(ready, &mut values);
     match solved {
-        Solved::Found => write_rota(values, n, out),
-        Solved::Inconsistent => lines::write_inconsistent(out),
-        Solved::Refused(_) => 0,
+        Ok(Solved::Found) => write_rota(values, n, out),
+        Ok(Solved::Inconsistent) => lines::write_inconsistent(out),
+        Err(_) => 0,
     }
 }
 
@@ -60,12 +58,9 @@ pub fn reply(text: &[u8], out: &mut [u8; LINES]) -> usize
     ensures { Replies text.now out.old out.new result }
 {
     let loaded = wcsp::read(text);
-    let outcome = loaded.outcome;
-    let n = loaded.variables;
-    let state = loaded.state;
-    match outcome {
-        Outcome::Refused(refusal, at) => lines::write_refused(number_of(refusal), at, out),
-        Outcome::Accepted => write_solved(state, n, out),
+    match loaded.outcome {
+        Ok(()) => write_solved(loaded.state, loaded.variables, out),
+        Err(fault) => lines::write_refused(u8::from(fault.refusal), fault.at, out),
     }
 }
 

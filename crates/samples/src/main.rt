@@ -1,8 +1,6 @@
 // Runs the program's library on each file that an argument names, and writes the name and the answer.
 #![tactic(auto)]
 
-ghost use Rattle.std.specs.Prelude.{◌≡◌, length};
-
 use lines::LINES;
 use std::env::FillError;
 use std::fs::File;
@@ -13,18 +11,12 @@ use std::{io, str};
 // The most bytes of a file's name.
 const PATH: usize = 4096;
 
-// One byte more than the program takes.
-fn room() -> [u8; reply::TEXT + 1]
-    ensures { 32769 ≡ length result }
-{
-    [0; reply::TEXT + 1]
-}
-
 // Writes the answer to what `from` gives.
 fn answer(rt: &impl Print, from: &mut impl Read) {
-    let mut text = room();
+    // one byte more than the program takes
+    let mut text = [0; reply::TEXT + 1];
     let length = input::read_full(from, &mut text);
-    let mut out = [0u8; LINES];
+    let mut out = [0; LINES];
     let count = reply::answer(&text[..length], &mut out);
     let _ = rt.write_all(&out[..count]);
 }
@@ -47,7 +39,7 @@ fn show(rt: &(impl Files + Print), path: &[u8]) {
 
 fn main(rt: HostRuntime) {
     for i in 1..usize::MAX {
-        let mut path = [0u8; PATH];
+        let mut path = [0; PATH];
         match rt.arg(i, &mut path) {
             Ok(length) => show(&rt, &path[..length]),
             Err(FillError::TooLong) => show(&rt, b""),

@@ -1,10 +1,10 @@
 -- Walking a set of changed variables, and noting the rules on each variable. Assumes nothing.
-use mathlib.Core.Path.{◌≡◌, refl, sym, ap, ◌∙◌}
+use mathlib.Core.Path.{◌≡◌, sym, ap, ◌∙◌}
 use mathlib.Core.Logic.{◌⊎◌, inl, inr, ⊎_elim, by_cases}
-use mathlib.Core.Bool.{Bool, true, false, true≢false}
+use Rattle.std.specs.Prelude.{Some}
 use mathlib.Core.List.Memᴰ
-use mathlib.Core.List.{List, []}
-use Prim.Native.Nat.{ℕ, zero, suc, ◌+◌, ◌^◌, ◌≤◌, ◌<◌}
+use mathlib.Core.List.{List}
+use Prim.Native.Nat.{ℕ, ◌+◌, ◌^◌, ◌<◌}
 use native.Mathlib.Decide.{ℕ_discrete}
 use native.Mathlib.Numerals.{add-one}
 use native.Mathlib.Omega.{arith}
@@ -13,30 +13,17 @@ use lib.ListN.{length, get_or, set, take, replicate, length-set, length-replicat
 use lib.Seq.{take-suc, get_or-set_same, get_or-set_other}
 use Rattle.meaning.specs.Limits.{variable_limit}
 use Rattle.meaning.specs.Values.{bit, Has, Lacks}
-use Rattle.meaning.specs.Rules.{scope_of}
 use Rattle.meaning.proofs.Digits.{zero_bit, bit_pow_same, bit_pow_other}
 use Rattle.meaning.proofs.Sets.{or_iff}
 use Rattle.values.specs.Sets.{Lowest, Dropped, Removed}
-use Rattle.filters.specs.Layout.{scope_at, rule_by, size_by, head, Placed}
-use Rattle.search.specs.Spreading.{Touching, ScopeFits, Noted, InVariables, AffectedBy}
-use Rattle.blocks.proofs.Copying.{zeros_at}
+use Rattle.filters.specs.declared.Head.{Head}
+use Rattle.filters.specs.Layout.{scope_at, head, Placed}
+use Rattle.filters.proofs.Laid.{scope_under}
 use Rattle.filters.proofs.Sifting.{at_mem}
-use Rattle.filters.proofs.Turns.{part_at, part_length}
+use Rattle.search.specs.Spreading.{Touching, ScopeIn, Noted, AffectedBy}
+use Rattle.blocks.proofs.Copying.{zeros_at}
 
 -- ---- noting one rule
-
-pub scope_small : (room : List ℕ) (start arity : ℕ) → ScopeFits room start arity → (j : ℕ) → j < arity → get_or room (start + j) 0 < variable_limit
-scope_small room start arity h j l =
-    let e = part_at room start arity j l in
-    rw e at (h.known (get_or (scope_at room start arity) j 0) (at_mem (scope_at room start arity) j (omega (arith, part_length room start arity h.fits))))
-
-pub noted_none : (k : ℕ) (sets : List ℕ) → Noted [] k sets sets
-noted_none k sets = record {
-  long = refl;
-  here = λ x m. absurd (Memᴰ.not-nil m);
-  kept = λ x j h. h;
-  only = λ x j h n. h;
-}
 
 module _ (s : List ℕ) (k : ℕ) (old sets : List ℕ) (j : ℕ) (inside : j < length s) (fits : get_or s j 0 < length sets) (h : Noted (take j s) k old sets) where
   x : ℕ
@@ -79,103 +66,61 @@ module _ (s : List ℕ) (k : ℕ) (old sets : List ℕ) (j : ℕ) (inside : j < 
 
 -- ---- noting every rule
 
-rule_scope : (room : List ℕ) (sort arity start last : ℕ) → scope_of (rule_by room sort arity start last) ≡ scope_at room start arity
-rule_scope room zero arity start last = refl
-rule_scope room (suc zero) arity start last = refl
-rule_scope room (suc (suc sort)) arity start last = refl
+pub placed_scope : (heads : List Head) (room : List ℕ) (k : ℕ) → Placed room (head heads k) → ScopeIn (scope_at room (head heads k).start (head heads k).arity)
+placed_scope heads room k p j l =
+    p.proper.known _ (rw (scope_under room (head heads k)) (at_mem (scope_at room (head heads k).start (head heads k).arity) j l))
 
-size_scope : (sort arity last : ℕ) → arity ≤ size_by sort arity last
-size_scope zero arity last = omega arith
-size_scope (suc zero) arity last = omega arith
-size_scope (suc (suc sort)) arity last = omega arith
-
-pub placed_scope : (heads room : List ℕ) (k : ℕ) → Placed heads room k → ScopeFits room (head heads k 2) (head heads k 1)
-placed_scope heads room k p = record {
-  fits = omega (arith, p.fits, size_scope (head heads k 0) (head heads k 1) (head heads k 3));
-  known = λ x m. p.proper.known x (rw (rule_scope room (head heads k 0) (head heads k 1) (head heads k 2) (head heads k 3)) m);
-}
-
-pub touching_none : (heads room : List ℕ) → Touching heads room 0 (replicate variable_limit 0)
+pub touching_none : (heads : List Head) (room : List ℕ) → Touching heads room 0 (replicate variable_limit 0)
 touching_none heads room = record {
   long = length-replicate {A = ℕ} variable_limit 0;
   all = λ k l. absurd (omega arith);
   only = λ x k h. absurd (let z = zero_bit k in let e = ap (λ (m : ℕ). bit m k) (zeros_at variable_limit x) in omega arith);
 }
 
-pub touching_more : {heads room sets new : List ℕ} {k : ℕ} → Touching heads room k sets → Noted (scope_at room (head heads k 2) (head heads k 1)) k sets new
-    → Touching heads room (k + 1) new
-touching_more {heads} {room} {sets} {new} {k} t n = record {
-  long = n.long ∙ t.long;
-  all = λ j l x m.
-      by_cases (ℕ_discrete j k)
-      (λ e. rw e (n.here x (rw (e, rule_scope room (head heads k 0) (head heads k 1) (head heads k 2) (head heads k 3)) at m)))
-      (λ d. n.kept x j (t.all j (omega arith) x m));
-  only = λ x j h. by_cases (ℕ_discrete j k) (λ e. omega arith) (λ d. omega (arith, t.only x j (n.only x j h d)));
-}
-
 -- ---- walking the changed variables
 
--- the lowest value of a set of variables is a variable
-pub lowest_small : {rest x : ℕ} → InVariables rest → ¬ (rest ≡ 0) → Lowest rest x → x < variable_limit
-lowest_small {rest} {x} known some low = known x (low.here (low.some (omega arith)))
-
--- what is known of the rules and the empty list once all but the rest of the changed variables are passed
-pub record Walked (sets L : List ℕ) (changed rules : ℕ) (empty : Bool) (rest : ℕ) : Type 0 where
+-- what is known of the rules once all but the rest of the changed variables are passed, and no list of these was empty
+pub record Walked (sets L : List ℕ) (changed rules rest : ℕ) : Type 0 where
   pub within : (x : ℕ) → Has rest x → Has changed x
   pub all : (x k : ℕ) → Has changed x → Lacks rest x → Has (get_or sets x 0) k → Has rules k
   pub only : (k : ℕ) → Has rules k → (x : ℕ) × Has changed x × Has (get_or sets x 0) k
-  pub dry : empty ≡ true → (x : ℕ) × Has changed x × (get_or L x 0 ≡ 0)
-  pub alive : empty ≡ false → (x : ℕ) → Has changed x → Lacks rest x → ¬ (get_or L x 0 ≡ 0)
+  pub alive : (x : ℕ) → Has changed x → Lacks rest x → ¬ (get_or L x 0 ≡ 0)
 
-pub walked_start : (sets L : List ℕ) (changed : ℕ) → Walked sets L changed 0 false changed
+pub walked_start : (sets L : List ℕ) (changed : ℕ) → Walked sets L changed 0 changed
 walked_start sets L changed = record {
   within = λ x h. h;
   all = λ x k h l. absurd (omega arith);
   only = λ k h. absurd (let z = zero_bit k in omega arith);
-  dry = λ e. absurd (true≢false (sym e));
-  alive = λ e x h l. absurd (omega arith);
+  alive = λ x h l. absurd (omega arith);
 }
 
-module _ {sets L : List ℕ} {changed rules rest next x : ℕ} {empty : Bool} (w : Walked sets L changed rules empty rest)
-    (some : ¬ (rest ≡ 0)) (low : Lowest rest x) (drop : Dropped rest next) where
+module _ {sets L : List ℕ} {changed rules rest x : ℕ} (w : Walked sets L changed rules rest) (some : ¬ (rest ≡ 0)) (low : Lowest rest x) where
   here : Has rest x
   here = low.here (low.some (omega arith))
 
-  fewer : Removed rest x next
-  fewer = drop.least x low
+  module _ {next : ℕ} (drop : Dropped rest next) where
+    fewer : Removed rest x next
+    fewer = drop.least x low
 
-  -- a changed variable that is passed now was passed before, or is x
-  passed : (y : ℕ) → Lacks next y → Lacks rest y ⊎ (y ≡ x)
-  passed y l = by_cases (ℕ_discrete y x) inr (λ n. inl (sym (fewer.kept y n) ∙ l))
+    -- a changed variable that is passed now was passed before, or is x
+    passed : (y : ℕ) → Lacks next y → Lacks rest y ⊎ (y ≡ x)
+    passed y l = by_cases (ℕ_discrete y x) inr (λ n. inl (sym (fewer.kept y n) ∙ l))
 
-  remain : (y : ℕ) → Has next y → Has rest y
-  remain y h =
-      by_cases (ℕ_discrete y x) (λ e. rw e here) (λ n. sym (fewer.kept y n) ∙ h)
+    remain : (y : ℕ) → Has next y → Has rest y
+    remain y h = by_cases (ℕ_discrete y x) (λ e. rw e here) (λ n. sym (fewer.kept y n) ∙ h)
 
-  walked_by : (empty' : Bool) → (empty' ≡ true → (y : ℕ) × Has changed y × (get_or L y 0 ≡ 0))
-      → (empty' ≡ false → (empty ≡ false) × ¬ (get_or L x 0 ≡ 0)) → Walked sets L changed (bit_or rules (get_or sets x 0)) empty' next
-  walked_by e' dry alive = record {
-    within = λ y h. w.within y (remain y h);
-    all = λ y k h l g.
-        (or_iff rules (get_or sets x 0) k).1 (⊎_elim (λ p. inl (w.all y k h p g)) (λ e. inr (rw e at g)) (passed y l));
-    only = λ k h. ⊎_elim (w.only k) (λ g. (x, w.within x here, g)) ((or_iff rules (get_or sets x 0) k).0 h);
-    dry = dry;
-    alive = λ e y h l.
-        let (f, n) = alive e in
-        ⊎_elim (w.alive f y h) (λ q. rw q n) (passed y l);
-  }
+    pub walked_on : ¬ (get_or L x 0 ≡ 0) → Walked sets L changed (bit_or rules (get_or sets x 0)) next
+    walked_on full = record {
+      within = λ y h. w.within y (remain y h);
+      all = λ y k h l g.
+          (or_iff rules (get_or sets x 0) k).1 (⊎_elim (λ p. inl (w.all y k h p g)) (λ e. inr (rw e at g)) (passed y l));
+      only = λ k h. ⊎_elim (w.only k) (λ g. (x, w.within x here, g)) ((or_iff rules (get_or sets x 0) k).0 h);
+      alive = λ y h l. ⊎_elim (w.alive y h) (λ q. rw q full) (passed y l);
+    }
 
-  pub walked_dry : get_or L x 0 ≡ 0 → Walked sets L changed (bit_or rules (get_or sets x 0)) true next
-  walked_dry z = walked_by true (λ e. (x, w.within x here, z)) (λ e. absurd (true≢false e))
-
-  pub walked_on : ¬ (get_or L x 0 ≡ 0) → Walked sets L changed (bit_or rules (get_or sets x 0)) empty next
-  walked_on n = walked_by empty w.dry (λ e. (e, n))
-
-pub walked_end : {sets L : List ℕ} {changed rules rest : ℕ} {empty : Bool} → Walked sets L changed rules empty rest → rest ≡ 0
-    → AffectedBy sets L changed (record { rules = rules; empty = empty })
+pub walked_end : {sets L : List ℕ} {changed rules rest : ℕ} → Walked sets L changed rules rest → rest ≡ 0 → AffectedBy sets L changed (Some rules)
 walked_end w e = record {
   all = λ x k h g. w.all x k h (rw e (zero_bit x)) g;
   only = w.only;
-  dry = w.dry;
-  alive = λ q x h. w.alive q x h (rw e (zero_bit x));
+  alive = λ x h. w.alive x h (rw e (zero_bit x));
 }

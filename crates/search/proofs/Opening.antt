@@ -1,57 +1,47 @@
--- Walks along the lists: the first that has more than one value, and whether one is empty. Assumes nothing.
-use mathlib.Core.Path.{◌≡◌, sym, ap}
-use mathlib.Core.Bool.{true, false, true≢false}
+-- The first list that has more than one value. Assumes nothing.
+use mathlib.Core.Path.{◌≡◌, sym}
 use mathlib.Core.Logic.{by_cases}
+use mathlib.Core.Bool.{false}
 use mathlib.Core.List.{List}
-use Prim.Native.Nat.{ℕ, ◌+◌, ◌^◌, ◌≤◌, ◌<◌}
+use Prim.Native.Nat.{ℕ, ◌^◌, ◌<◌, ◌≤◌}
 use native.Mathlib.Decide.{ℕ_discrete, dec_lt}
 use native.Mathlib.Omega.{arith}
-use lib.ListN.{get_or}
+use lib.ListN.{length, get_or, take, length-take, get_or-eq_default}
+use lib.Seq.{get_or-take}
+use Rattle.std.specs.Prelude.{Some, None, nat_lt}
+use Rattle.std.proofs.lemmas.Bool.{ltb-true, ltb-false}
+use Rattle.std.specs.List.{position_or_len}
+use Rattle.std.proofs.lemmas.Grind.{common_steps}
+use Rattle.std.proofs.lemmas.List.Sums.{fails_before_first}
+use Rattle.std.proofs.lemmas.List.Quantifiers.{position-Some}
 use Rattle.meaning.specs.Values.{Has, size}
+use Rattle.meaning.specs.Lists.{Left}
 use Rattle.meaning.proofs.Digits.{has_small}
-use Rattle.meaning.proofs.Sets.{has_nonzero, size_two, size_zero}
-use Rattle.meaning.proofs.Sizes.{size_of_zero}
-use Rattle.values.specs.Sets.{Dropped}
-use Rattle.search.specs.Choosing.{Settled, FirstOpen, TellsEmpty}
+use Rattle.meaning.proofs.Sets.{size_two}
+use Rattle.meaning.proofs.Listed.{Words}
+use Rattle.search.specs.Choosing.{Settled, Opens, FirstOpen}
 
--- what holds of each number below n, and of n, holds of each below n + 1
-one_more : (P : ℕ → Type 0) (n : ℕ) → ((y : ℕ) → y < n → P y) → P n → (y : ℕ) → y < n + 1 → P y
-one_more P n all here y l = by_cases (dec_lt y n) (all y) (λ k. let e : y ≡ n = omega arith in rw e here)
-
--- ---- more than one value
-
--- a set of which nothing is left without its least value has no two
-alone : (m d : ℕ) → m < 2 ^ 64 → Dropped m d → d ≡ 0 → (v w : ℕ) → Has m v → Has m w → v ≡ w
-alone m d fits dropped none v w h k =
+-- a set of one value at most has no two
+alone : (m : ℕ) → m < 2 ^ 64 → size m ≤ 1 → (v w : ℕ) → Has m v → Has m w → v ≡ w
+alone m fits few v w h k =
     by_cases (ℕ_discrete w v) sym λ other.
     let two = size_two m v w (has_small m v fits h) (has_small m w fits k) h k other in
-    absurd (omega (arith, dropped.fewer (has_nonzero m v h), ap size none, size_of_zero))
+    absurd (omega arith)
 
--- and one of which something is left has
-several : (m d : ℕ) → d < 2 ^ 64 → Dropped m d → ¬ (d ≡ 0) → 1 < size m
-several m d fits dropped some =
-    let full : 0 < m = by_cases (ℕ_discrete m 0) (λ z. absurd (some (dropped.empty z))) (λ k. omega arith) in
-    by_cases (ℕ_discrete (size d) 0) (λ z. absurd (some (size_zero d fits z))) (λ k. omega (arith, dropped.fewer full))
+pub words_take : (n : ℕ) (L : List ℕ) → Words L → Words (take n L)
+words_take n L words x =
+    by_cases (dec_lt x n) (λ l. rw (get_or-take n L x 0 l) (words x)) (λ h. rw (get_or-eq_default (take n L) 0 {n = x} (omega (arith, length-take n L))) (omega arith))
 
-pub settled_more : (L : List ℕ) (x d : ℕ) → get_or L x 0 < 2 ^ 64 → Dropped (get_or L x 0) d → d ≡ 0 → Settled L x → Settled L (x + 1)
-settled_more L x d fits dropped none all = one_more (λ y. (v w : ℕ) → Has (get_or L y 0) v → Has (get_or L y 0) w → v ≡ w) x all (alone (get_or L x 0) d fits dropped none)
+module _ (L : List ℕ) (words : Words L) where
+  below : (y : ℕ) → nat_lt 1 (size (get_or L y 0)) ≡ false → (v w : ℕ) → Left L y v → Left L y w → v ≡ w
+  below y e = alone (get_or L y 0) (words y) (ltb-false 1 (size (get_or L y 0)) e)
 
-pub opens : (L : List ℕ) (n x d : ℕ) → x < n → d < 2 ^ 64 → Dropped (get_or L x 0) d → ¬ (d ≡ 0) → Settled L x → FirstOpen L n x
-opens L n x d l fits dropped some all = record { most = omega arith; settled = all; several = λ _. several (get_or L x 0) d fits dropped some }
+  pub opened : (x : ℕ) → FirstOpen L (Some x) → Opens L x
+  opened x e =
+      let (l, here, before) = position-Some (λ m. nat_lt 1 (size m)) L x 0 (sym e) in
+      record { inside = l; settled = λ y h. below y (before y h); several = ltb-true 1 (size (get_or L x 0)) here }
 
-pub opens_none : (L : List ℕ) (n x : ℕ) → n ≤ x → Settled L x → FirstOpen L n n
-opens_none L n x l all = record { most = omega arith; settled = λ y h. all y (omega arith); several = λ h. absurd (omega arith) }
-
--- ---- none
-
-abbrev pub Full : List ℕ → ℕ → Type 0
-Full L x = (y : ℕ) → y < x → ¬ (get_or L y 0 ≡ 0)
-
-pub full_more : (L : List ℕ) (x : ℕ) → ¬ (get_or L x 0 ≡ 0) → Full L x → Full L (x + 1)
-full_more L x some all = one_more (λ y. ¬ (get_or L y 0 ≡ 0)) x all some
-
-pub tells_empty : (L : List ℕ) (n x : ℕ) → x < n → get_or L x 0 ≡ 0 → TellsEmpty L n true
-tells_empty L n x l z = record { yes = λ _. (x, l, z); no = λ e. absurd (true≢false e) }
-
-pub tells_full : (L : List ℕ) (n x : ℕ) → n ≤ x → Full L x → TellsEmpty L n false
-tells_full L n x l all = record { yes = λ e. absurd (true≢false (sym e)); no = λ _ y h. all y (omega arith) }
+  pub closed_up : FirstOpen L None → Settled L (length L)
+  closed_up e y l =
+      let all : length L ≤ position_or_len (λ m. nat_lt 1 (size m)) L = grind (arith, common_steps) in
+      below y (fails_before_first (λ m. nat_lt 1 (size m)) L y 0 (omega arith))

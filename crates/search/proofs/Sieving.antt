@@ -1,27 +1,28 @@
 -- Narrowing lists by rules and thresholds in turn loses no assignment that meets all. Assumes nothing.
-use mathlib.Core.Path.{◌≡◌, refl, sym, ap, ◌∙◌}
+use mathlib.Core.Path.{◌≡◌, sym, ap, ◌∙◌}
 use mathlib.Core.Logic.{⊎_elim, by_cases}
-use mathlib.Core.Bool.{Bool, true, false, true≢false}
+use Rattle.std.specs.Prelude.{Option, None, Some}
 use mathlib.Core.List.{List, ◌++◌, map, Memᴰ}
 use Prim.Native.Nat.{ℕ, ◌+◌, ◌-◌, ◌^◌, ◌≤◌, ◌<◌}
 use native.Mathlib.Decide.{ℕ_discrete, dec_lt}
 use native.Mathlib.Omega.{arith}
-use lib.ListN.{length, get_or, take, drop, length-map, get_or-append}
+use lib.ListN.{length, get_or, drop, length-map, get_or-append}
 use lib.Seq.{get_or-append-add, get_or-drop}
 use Rattle.meaning.specs.Limits.{variable_limit}
 use Rattle.meaning.specs.Values.{Has, Lacks}
-use Rattle.meaning.specs.Rules.{Rule, scope_of, at}
+use Rattle.meaning.specs.Rules.{Rule, scope_of, at, values_at}
 use Rattle.meaning.specs.Lists.{Left, Closed}
 use Rattle.meaning.proofs.Digits.{zero_bit, bit_cases, bit_pow_same, bit_pow_other}
 use Rattle.meaning.proofs.Sets.{some_digit}
 use Rattle.meaning.proofs.Largest.{◌⊑◌}
 use Rattle.meaning.proofs.Listed.{Words}
-use Rattle.search.specs.declared.spreading.Affected.{Affected}
+use Rattle.meaning.proofs.Greedy.{Reaches}
+use Rattle.filters.specs.declared.Head.{Head}
 use Rattle.filters.specs.Layout.{rule_at, rules_at}
 use Rattle.filters.specs.Filter.{Toward, weight}
-use Rattle.search.specs.Spreading.{Due, AffectedBy, Spread}
+use Rattle.search.specs.Spreading.{Due, Touched, AffectedBy, Quiet, Dry}
 use Rattle.search.specs.Search.{Meets, Sieved, Net}
-use Rattle.search.specs.Thresholds.{Aims, Open, Raised}
+use Rattle.search.specs.Thresholds.{Aims, Open, Fits, Reached, Raised}
 use Rattle.filters.proofs.Sweeping.{weight_le, words_below, changed_none, changed_some}
 use Rattle.filters.proofs.Closing.{closed_kept, closed_by_all, closed_by_each}
 use Rattle.search.proofs.Reaching.{map_at, named_at}
@@ -99,66 +100,63 @@ module _ {rules : List Rule} {objectives y : List ℕ} {n : ℕ} where
 -- ---- narrowing from B
 
 -- L is what is left, and the rules in rest are due
-pub record Sieving (heads room : List ℕ) (rules : ℕ) (objectives y : List ℕ) (n : ℕ) (B L : List ℕ) (rest : ℕ) : Type 0 where
+pub record Sieving (heads : List Head) (room : List ℕ) (objectives y : List ℕ) (n : ℕ) (B L : List ℕ) (rest : ℕ) : Type 0 where
   pub full : length L ≡ variable_limit
+  pub words : Words B
   pub long : length L ≡ length B
   pub within : L ⊑ B
-  pub keeps : (a : List ℕ) → Meets (rules_at heads room rules) objectives y n B a → Meets (rules_at heads room rules) objectives y n L a
-  pub due : Due heads room rules L rest
+  pub keeps : (a : List ℕ) → Meets (rules_at heads room) objectives y n B a → Meets (rules_at heads room) objectives y n L a
+  pub due : Due heads room L rest
   pub some : (x : ℕ) → x < n → ¬ (get_or L x 0 ≡ 0)
 
-pub sieving_start : {heads room : List ℕ} {rules : ℕ} {objectives y : List ℕ} {n : ℕ} {B : List ℕ} {due : ℕ} → length B ≡ variable_limit
-    → ((x : ℕ) → x < n → ¬ (get_or B x 0 ≡ 0)) → Due heads room rules B due → Sieving heads room rules objectives y n B B due
-sieving_start full some due = record { full = full; long = refl; within = λ x v h. h; keeps = λ a m. m; due = due; some = some }
-
-module _ {heads room touching objective : List ℕ} {rules count n : ℕ} (net : Net heads room rules touching objective count n) where
-  module _ {y B L M : List ℕ} {rest : ℕ} {r : Bool} (so : Sieving heads room rules (take count objective) y n B L rest)
-      (s : Spread (rules_at heads room rules) L M r) where
+module _ {heads : List Head} {room touching goals : List ℕ} {n : ℕ} (net : Net heads room touching goals n) where
+  module _ {y B L M : List ℕ} {rest : ℕ} (so : Sieving heads room goals y n B L rest) where
     -- a list has become empty
-    pub sieved_dry : r ≡ false → Sieved (rules_at heads room rules) (take count objective) y n B false M
-    sieved_dry e = record {
-      long = (s.dry e).0.long ∙ so.long;
-      within = λ x v h. so.within x v ((s.dry e).0.within x v h);
+    pub sieved_dry : Dry (rules_at heads room) L M → Sieved (rules_at heads room) goals y n B None M
+    sieved_dry s = record {
+      long = s.toward.long ∙ so.long;
+      within = λ x v h. so.within x v (s.toward.within x v h);
       keeps = λ a m. absurd (none a m);
-      dead = λ _. none;
-      live = λ z. absurd (true≢false (sym z));
+      answer = none;
     }
       where
-        none : (a : List ℕ) → ¬ Meets (rules_at heads room rules) (take count objective) y n B a
-        none a m = let (t, (x, z, d)) = s.dry e in d (toward_some net.known t (so.keeps a m) x z)
+        none : (a : List ℕ) → ¬ Meets (rules_at heads room) goals y n B a
+        none a m = let (x, z, d) = s.empty in d (toward_some net.known s.toward (so.keeps a m) x z)
 
     -- no rule is due any more
-    pub spread_on : r ≡ true → Sieving heads room rules (take count objective) y n B M 0
-    spread_on e =
-        let d = s.done e in
-        let t : Toward (rules_at heads room rules) L M = record { long = d.long; within = d.within; most = d.most } in
+    spread_on : Quiet (rules_at heads room) L M → Sieving heads room goals y n B M 0
+    spread_on s =
+        let d = s.largest in
+        let t : Toward (rules_at heads room) L M = record { long = d.long; within = d.within; most = d.most } in
         record {
           full = d.long ∙ so.full;
+          words = so.words;
           long = d.long ∙ so.long;
           within = λ x v h. so.within x v (d.within x v h);
           keeps = λ a m. toward_meets net.known t (so.keeps a m);
           due = record {
             known = λ k h. absurd (omega (arith, zero_bit k));
-            others = λ k l z. closed_by_each heads room M rules d.closed k l;
+            others = λ k l z. closed_by_each heads room M d.closed k l;
           };
-          some = λ x l z. so.some x l (s.alive e x z);
+          some = λ x l z. so.some x l (s.alive x z);
         }
 
-  module _ {y B M : List ℕ} (so : Sieving heads room rules (take count objective) y n B M 0) where
-    pub sieving_aims : Aims objective count M
+  module _ {y B L M : List ℕ} {rest : ℕ} (from : Sieving heads room goals y n B L rest) (spread : Quiet (rules_at heads room) L M) where
+    so : Sieving heads room goals y n B M 0
+    so = spread_on from spread
+
+    pub sieving_aims : Aims goals M
     sieving_aims = record {
-      long = net.long;
       most = net.most;
       lists = so.full;
-      known = λ j l. omega (arith, net.variables, net.named (get_or objective j 0) (named_at objective count net.long net.most j l));
+      known = λ j l. omega (arith, net.variables, net.named (get_or goals j 0) (named_at goals j l));
     }
 
-    pub sieving_open : Open objective count M
-    sieving_open j l = so.some (get_or objective j 0) (net.named (get_or objective j 0) (named_at objective count net.long net.most j l))
+    pub sieving_open : Open goals M
+    sieving_open j l = so.some (get_or goals j 0) (net.named (get_or goals j 0) (named_at goals j l))
 
-    module _ {alive : Bool} {c : ℕ} {K : List ℕ} (f : Raised (take count objective) y M alive c K) where
-      raised_keeps : (a : List ℕ) → Meets (rules_at heads room rules) (take count objective) y n B a
-          → Meets (rules_at heads room rules) (take count objective) y n K a
+    module _ {r : Option ℕ} {K : List ℕ} (f : Raised goals y M r K) where
+      raised_keeps : (a : List ℕ) → Meets (rules_at heads room) goals y n B a → Meets (rules_at heads room) goals y n K a
       raised_keeps a m =
           let g = so.keeps a m in
           meets_in g (λ x l. f.keeps a (λ z i. g.inside z (net.named z i)) g.reaches x (g.inside x l))
@@ -166,58 +164,62 @@ module _ {heads room touching objective : List ℕ} {rules count n : ℕ} (net :
       raised_within : K ⊑ B
       raised_within x v h = so.within x v (f.within x v h)
 
-      -- the thresholds are out of reach
-      pub sieved_dead : alive ≡ false → Sieved (rules_at heads room rules) (take count objective) y n B false K
-      sieved_dead e = record {
-        long = f.long ∙ so.long;
-        within = raised_within;
-        keeps = raised_keeps;
-        dead = λ _ a m. let g = so.keeps a m in f.dead e a (λ z i. g.inside z (net.named z i)) g.reaches;
-        live = λ z. absurd (true≢false (sym z));
-      }
-
       raised_some : (x : ℕ) → x < n → ¬ (get_or K x 0 ≡ 0)
       raised_some x l z = so.some x l (f.some x z)
 
-      -- the thresholds drop nothing
-      pub sieved_live : alive ≡ true → c ≡ 0 → Sieved (rules_at heads room rules) (take count objective) y n B true K
-      sieved_live e z =
-          let same : K ≡ M = changed_none f.long (rw z at f.changed) in
-          record {
-            long = f.long ∙ so.long;
-            within = raised_within;
-            keeps = raised_keeps;
-            dead = λ q. absurd (true≢false q);
-            live = λ _. record {
-              closed = rw same (closed_by_all heads room M rules (λ k l. so.due.others k l (zero_bit k)));
-              some = raised_some;
-              top = λ a long inside greatest. f.top e a (λ x i. inside x (net.named x i)) (λ x v i. greatest x v (net.named x i));
-            };
-          }
-
-      -- the rules on the changed variables are due
-      pub sieving_on : (after : Affected) → AffectedBy touching K c after → Sieving heads room rules (take count objective) y n B K after.rules
-      sieving_on after by = record {
-        full = f.long ∙ so.full;
+      -- the thresholds are out of reach
+      pub sieved_dead : ((a : List ℕ) → Fits goals M a → ¬ Reaches y (values_at a goals)) → Sieved (rules_at heads room) goals y n B None K
+      sieved_dead none = record {
         long = f.long ∙ so.long;
         within = raised_within;
         keeps = raised_keeps;
-        due = record {
-          known = λ k h. let (x, g, i) = by.only k h in net.sets.only x k i;
-          others = λ k l none. closed_kept M K (untouched k l none) (so.due.others k l (zero_bit k));
-        };
-        some = raised_some;
+        answer = λ a m. let g = so.keeps a m in none a (λ z i. g.inside z (net.named z i)) g.reaches;
       }
-        where
-          untouched : (k : ℕ) → k < rules → Lacks after.rules k → (x : ℕ) → Memᴰ x (scope_of (rule_at heads room k)) → get_or K x 0 ≡ get_or M x 0
-          untouched k l none x i =
-              f.changed.same x
-              (⊎_elim (λ z. z) (λ h. absurd (let g = by.all x k h (net.sets.all k l x i) in omega arith)) (bit_cases c x))
 
-      pub sieving_less : (L : List ℕ) → M ⊑ L → Words B → ¬ (c ≡ 0) → weight K < weight L
-      sieving_less L low fit some =
-          omega (
-            arith,
-            weight_le M L low,
-            changed_some f.long so.full (words_below M B fit so.within) f.within f.changed (omega arith),
-          )
+      module _ {c : ℕ} (in_reach : Reached goals y M K c) where
+        -- the thresholds drop nothing
+        pub sieved_live : c ≡ 0 → Sieved (rules_at heads room) goals y n B (Some tt) K
+        sieved_live z =
+            let same : K ≡ M = changed_none f.long (rw z at in_reach.changed) in
+            record {
+              long = f.long ∙ so.long;
+              within = raised_within;
+              keeps = raised_keeps;
+              answer = record {
+                closed = rw same (closed_by_all heads room M (λ k l. so.due.others k l (zero_bit k)));
+                some = raised_some;
+                top = λ a long inside greatest. in_reach.top a (λ x i. inside x (net.named x i)) (λ x v i. greatest x v (net.named x i));
+              };
+            }
+
+        -- a list that changed is not empty
+        pub raised_full : ¬ AffectedBy touching K c None
+        raised_full (x, h, z) = in_reach.changed.other x h (z ∙ sym (f.some x z))
+
+        -- the rules on the changed variables are due
+        pub sieving_on : {after : ℕ} → Touched touching K c after → Sieving heads room goals y n B K after
+        sieving_on {after} by = record {
+          full = f.long ∙ so.full;
+          words = so.words;
+          long = f.long ∙ so.long;
+          within = raised_within;
+          keeps = raised_keeps;
+          due = record {
+            known = λ k h. let (x, g, i) = by.only k h in net.sets.only x k i;
+            others = λ k l none. closed_kept M K (untouched k l none) (so.due.others k l (zero_bit k));
+          };
+          some = raised_some;
+        }
+          where
+            untouched : (k : ℕ) → k < length heads → Lacks after k → (x : ℕ) → Memᴰ x (scope_of (rule_at heads room k)) → get_or K x 0 ≡ get_or M x 0
+            untouched k l none x i =
+                in_reach.changed.same x
+                (⊎_elim (λ z. z) (λ h. absurd (let g = by.all x k h (net.sets.all k l x i) in omega arith)) (bit_cases c x))
+
+        pub sieving_less : ¬ (c ≡ 0) → weight K < weight L
+        sieving_less some =
+            omega (
+              arith,
+              weight_le M L spread.largest.within,
+              changed_some f.long so.full (words_below M B so.words so.within) f.within in_reach.changed (omega arith),
+            )

@@ -1,11 +1,11 @@
 -- One value alone of a variable's list: what the lists are then, and what meets all within them. Assumes nothing.
-use mathlib.Core.Path.{◌≡◌}
+use mathlib.Core.Path.{◌≡◌, ◌∙◌}
 use mathlib.Core.Logic.{by_cases}
 use mathlib.Core.List.{List}
 use Prim.Native.Nat.{ℕ, ◌<◌}
 use native.Mathlib.Decide.{ℕ_discrete}
 use native.Mathlib.Omega.{arith}
-use lib.ListN.{length, get_or, set}
+use lib.ListN.{length, get_or, set, length-set}
 use lib.Seq.{get_or-set_same, get_or-set_other}
 use Rattle.meaning.specs.Limits.{value_limit, variable_limit}
 use Rattle.meaning.specs.Values.{Has, size}
@@ -15,11 +15,13 @@ use Rattle.meaning.proofs.Sizes.{size_le, total_lt}
 use Rattle.meaning.proofs.Sets.{has_nonzero}
 use Rattle.meaning.proofs.Largest.{◌⊑◌}
 use Rattle.values.specs.Sets.{Alone}
+use Rattle.filters.specs.declared.Head.{Head}
 use Rattle.filters.specs.Layout.{rules_at}
 use Rattle.filters.specs.Filter.{weight}
 use Rattle.search.specs.Spreading.{Touching, Due}
 use Rattle.search.specs.Search.{Meets}
-use Rattle.search.specs.Choosing.{Choosable, Narrowable}
+use Rattle.search.specs.declared.task.Task.{Task}
+use Rattle.search.specs.Tasks.{Choosable, Narrowable}
 use Rattle.filters.proofs.Closing.{closed_kept, closed_by_each}
 
 -- what meets all within lists does so within wider ones
@@ -54,22 +56,21 @@ module _ (L : List ℕ) (x v m : ℕ) (inside : x < length L) (small : v < value
       each z l = by_cases (ℕ_discrete z x) (λ q. rw (q, here, e) (alone.here small)) (λ other. rw (there z other) (meets.inside z l))
 
   -- only the rules on x can drop anything then
-  pub alone_due : (heads room : List ℕ) (rules : ℕ) (sets : List ℕ) → Touching heads room rules sets → Closed (rules_at heads room rules) L
-      → Due heads room rules (set L x m) (get_or sets x 0)
-  alone_due heads room rules sets touch shut = record {
+  pub alone_due : (heads : List Head) (room sets : List ℕ) → Touching heads room (length heads) sets → Closed (rules_at heads room) L
+      → Due heads room (set L x m) (get_or sets x 0)
+  alone_due heads room sets touch shut = record {
     known = touch.only x;
     others = λ k l none.
         closed_kept L (set L x m) (λ y i. there y (λ e. absurd (omega (arith, none, touch.all k l x (rw e at i)))))
-        (closed_by_each heads room L rules shut k l);
+        (closed_by_each heads room L shut k l);
   }
 
-  pub tries : {heads room : List ℕ} {rules : ℕ} {sets objective : List ℕ} {count : ℕ} {floors : List ℕ} {n : ℕ} → x < n → Left L x v
-      → Choosable heads room rules sets objective count floors n L → Narrowable heads room rules sets objective count floors n (get_or sets x 0) (set L x m)
-  tries {heads} {room} {rules} {sets} {n} l left ready = record {
+  pub tries : {t : Task} → x < t.n → Left L x v → Choosable t L → length L ≡ variable_limit → Narrowable t (get_or t.sets x 0) (set L x m)
+  tries {t} l left ready long = record {
     net = ready.net;
-    thresholds = ready.thresholds;
+    long = length-set L x m ∙ long;
     some = λ y h. by_cases (ℕ_discrete y x) (λ e. rw (e, here) (λ z. absurd (omega (arith, has_nonzero m v (alone.here small))))) (λ other. rw (there y other) (ready.live.some y h));
-    closed = alone_due heads room rules sets ready.net.sets ready.live.closed;
+    others = alone_due t.rules.heads.now t.rules.room.now t.sets ready.net.sets ready.live.closed;
   }
 
   -- where x has another value, fewer values are left in all

@@ -3,3 +3,4 @@ pub mod Spreading
 pub mod Search
 pub mod Thresholds
 pub mod Choosing
+pub mod Tasks

@@ -4,6 +4,7 @@
 mod choices;
 mod nodes;
 mod spreading;
+mod task;
 mod thresholds;
 
 pub use choices::{Rota, first_reaching};

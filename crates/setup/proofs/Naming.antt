@@ -1,12 +1,12 @@
--- Naming the objectives: the tests, and the state that holds the new names. Assumes nothing.
+-- Naming the objectives: the state that holds the new names. Assumes nothing.
 use mathlib.Core.Path.{◌≡◌, refl, sym, ap, ◌∙◌}
-use mathlib.Core.Logic.{inl, inr}
-use mathlib.Core.Bool.{true, false, or-true}
+use mathlib.Core.Logic.{inr}
+use mathlib.Core.Bool.{false}
 use mathlib.Core.List.{List}
 use Prim.Native.Nat.{ℕ, ◌≤◌, ◌<◌}
 use native.Mathlib.Omega.{arith}
-use borrow.Author.Tests.{eq-eqb, ne_eqb, le-ltb, lt-ltb}
-use lib.Dec.{leb, eqb}
+use borrow.Author.Tests.{ne_eqb, le-ltb}
+use lib.Dec.{leb}
 use lib.ListN.{length}
 use Rattle.meaning.specs.Limits.{objective_limit}
 use Rattle.meaning.specs.Order.{outside}
@@ -14,15 +14,11 @@ use Rattle.meaning.specs.Standing.{Standing}
 use Rattle.meaning.specs.Calls.{name_objectives, some, unknown, tests, accepted}
 use Rattle.meaning.proofs.Steps.{objectives_largest}
 use Rattle.state.specs.declared.State.{State}
-use Rattle.refusals.specs.declared.Refusal.TheVariants.{NoSuchVariable, WrongLength}
-use Rattle.refusals.specs.declared.Answer.{Answer}
-use Rattle.refusals.specs.declared.Answer.TheVariants.{Refused}
 use Rattle.filters.specs.Layout.{padded}
 use Rattle.state.specs.Holds.{Holds}
-use Rattle.refusals.specs.Numbers.{number_of}
 use Rattle.state.specs.Promises.{Answers}
 use Rattle.meaning.proofs.Finding.{finds}
-use Rattle.state.proofs.Answering.{refuses, accepts}
+use Rattle.state.proofs.Answering.{accepts}
 
 abbrev pub with_names : State → List ℕ → ℕ → State
 with_names s named count = record {
@@ -57,33 +53,15 @@ named_held xs named is hold = record {
   };
 }
 
-pub too_few : (k n : ℕ) → n ≡ 0 → outside k n ≡ true
-too_few k n e = rw (eq-eqb n 0 e)
+module _ (s : State) (xs : List ℕ) (low : 0 < length xs) (high : length xs ≤ objective_limit) where
+  inside : outside objective_limit (length xs) ≡ false
+  inside = rw (ne_eqb (length xs) 0 (λ z. omega arith), le-ltb objective_limit (length xs) high)
 
-pub too_many : (k n : ℕ) → k < n → outside k n ≡ true
-too_many k n h = rw (lt-ltb k n h, or-true (eqb n 0))
+  unknown_is : {w : Standing} → Holds s w → some (unknown w) xs ≡ some (leb s.variables) xs
+  unknown_is hold = ap (λ (m : ℕ). some (leb m) xs) (sym hold.variables)
 
-module _ (s : State) (xs : List ℕ) where
-  pub wrong_count : (a : Answer) (t : State) → (a ≡ Refused WrongLength) × (t ≡ s) → outside objective_limit (length xs) ≡ true
-      → Answers s (name_objectives xs) (number_of a) t
-  wrong_count a t is out =
-      refuses s (name_objectives xs) WrongLength a t is λ w L p hold most. finds (tests w L (name_objectives xs)) 3 (inl (out, refl))
-
-  module _ (low : 0 < length xs) (high : length xs ≤ objective_limit) where
-    inside : outside objective_limit (length xs) ≡ false
-    inside = rw (ne_eqb (length xs) 0 (λ z. omega arith), le-ltb objective_limit (length xs) high)
-
-    unknown_is : {w : Standing} → Holds s w → some (unknown w) xs ≡ some (leb s.variables) xs
-    unknown_is hold = ap (λ (m : ℕ). some (leb m) xs) (sym hold.variables)
-
-    pub unknown_name : (a : Answer) (t : State) → (a ≡ Refused NoSuchVariable) × (t ≡ s) → some (leb s.variables) xs ≡ true
-        → Answers s (name_objectives xs) (number_of a) t
-    unknown_name a t is e =
-        refuses s (name_objectives xs) NoSuchVariable a t is λ w L p hold most.
-        finds (tests w L (name_objectives xs)) 1 (inr (inside, inl (unknown_is hold ∙ e, refl)))
-
-    pub names_accepted : some (leb s.variables) xs ≡ false → (named : List ℕ) → named ≡ padded objective_limit xs
-        → Answers s (name_objectives xs) 0 (with_names s named (length xs))
-    names_accepted e named is =
-        accepts s (name_objectives xs) (with_names s named (length xs)) λ h w L l hold most.
-        (finds (tests w L (name_objectives xs)) 0 (inr (inside, inr (unknown_is hold ∙ e, refl))), named_held xs named is hold)
+  pub names_accepted : some (leb s.variables) xs ≡ false → (named : List ℕ) → named ≡ padded objective_limit xs
+      → Answers s (name_objectives xs) 0 (with_names s named (length xs))
+  names_accepted e named is =
+      accepts s (name_objectives xs) (with_names s named (length xs)) λ h w L l hold most.
+      (finds (tests w L (name_objectives xs)) 0 (inr (inside, inr (unknown_is hold ∙ e, refl))), named_held xs named is hold)

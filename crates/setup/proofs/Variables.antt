@@ -1,32 +1,27 @@
 -- The state in which nothing stands, and a state with one variable more. Assumes nothing.
 use mathlib.Core.Path.{◌≡◌, refl, sym, ap, ◌∙◌}
 use mathlib.Core.Logic.{◌⊎◌, inl, inr, ⊎_elim}
-use mathlib.Core.Bool.{Bool}
 use mathlib.Core.List.{List, [], ◌∷◌, ◌++◌}
 use Prim.Native.Nat.{ℕ, zero, suc, ◌+◌, ◌*◌, ◌≤◌, ◌<◌}
 use native.Mathlib.Omega.{arith}
-use borrow.Author.Tests.{lt-ltb, le-ltb, le-leb}
-use lib.Dec.{leb, ltb}
 use lib.ListN.{length, get_or, set, replicate, length-replicate, length-append, length-set}
 use lib.Seq.{take-nil, take-suc-set, get_or-set_other}
 use Rattle.meaning.specs.Limits.{variable_limit, rule_limit, room_limit, objective_limit, decision_limit}
 use Rattle.meaning.specs.Standing.{Standing, Decision, nothing}
 use Rattle.meaning.specs.Lists.{Largest}
-use Rattle.meaning.specs.Refusals.{Refusal, number, first, decided, full}
 use Rattle.meaning.specs.Calls.{add_variable, accepted, held}
 use Rattle.meaning.specs.Proper.{Proper}
 use Rattle.meaning.proofs.Steps.{nothing_largest, variable_largest}
 use Rattle.state.specs.declared.State.{State}
-use Rattle.meaning.proofs.Finding.{finds}
-use Rattle.filters.specs.Layout.{heads_of, room_of, padded}
+use Rattle.filters.specs.Layout.{no_head, heads_of, room_of, padded}
 use Rattle.blocks.specs.Blocks.{block}
 use Rattle.state.specs.Holds.{Holds, HoldsLists, up_to}
 use Rattle.blocks.proofs.Copying.{zeros_at}
-use Rattle.filters.proofs.Padding.{padded_set, padded_nil}
+use Rattle.filters.proofs.Padding.{filled_nil, padded_set, padded_nil}
 
 -- ---- nothing
 
-pub nothing_held : {s : State} → (s.variables ≡ 0) × (s.declared ≡ replicate variable_limit 0) × (s.rules ≡ 0) × (s.heads ≡ replicate (4 * rule_limit) 0)
+pub nothing_held : {s : State} → (s.variables ≡ 0) × (s.declared ≡ replicate variable_limit 0) × (s.rules ≡ 0) × (s.heads ≡ replicate rule_limit no_head)
     × (s.used ≡ 0) × (s.room ≡ replicate room_limit 0) × (s.objectives ≡ 0) × (s.objective ≡ replicate objective_limit 0)
     × (s.depth ≡ 0) × (s.lists ≡ replicate (variable_limit * (decision_limit + 1)) 0) → Holds s nothing
 unfolding heads_of room_of held
@@ -34,7 +29,7 @@ nothing_held {s} (v, d, r, h, u, m, o, p, e, l) = record {
   variables = v;
   declared = d ∙ sym (padded_nil variable_limit);
   rules = r;
-  heads = h ∙ sym (padded_nil (4 * rule_limit));
+  heads = h ∙ sym (filled_nil no_head rule_limit);
   used = u;
   room = m ∙ sym (padded_nil room_limit);
   objectives = o;
@@ -106,11 +101,3 @@ module _ (s : State) (w : Standing) (m : ℕ) (p : Proper w) (h : Holds s w) (fr
         depth = h.depth;
         lists = rw v lists_grow;
       }
-
--- ---- the tests
-
-pub decided_first : (n : ℕ) (others : List (Bool × Refusal)) → 0 < n → first ((ltb 0 n, decided) ∷ others) ≡ number decided
-decided_first n others h = finds ((ltb 0 n, decided) ∷ others) (number decided) (inl (lt-ltb 0 n h, refl))
-
-pub full_then : (n m : ℕ) (others : List (Bool × Refusal)) → n ≡ 0 → variable_limit ≤ m → first ((ltb 0 n, decided) ∷ (leb variable_limit m, full) ∷ others) ≡ number full
-full_then n m others e h = finds ((ltb 0 n, decided) ∷ (leb variable_limit m, full) ∷ others) (number full) (inr (le-ltb 0 n (omega arith), inl (le-leb variable_limit m h, refl)))

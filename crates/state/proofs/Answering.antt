@@ -14,13 +14,12 @@ use Rattle.meaning.proofs.Proper.{number_above, leaves_proper}
 use Rattle.meaning.proofs.Histories.{after_accepted, after_refused}
 use Rattle.state.specs.declared.State.{State}
 use Rattle.refusals.specs.declared.Refusal.{Refusal}
-use Rattle.refusals.specs.declared.Answer.{Answer}
-use Rattle.refusals.specs.declared.Answer.TheVariants.{Refused}
+use Rattle.std.specs.Prelude.{Result, Err}
 use Rattle.state.specs.Holds.{Holds}
 use Rattle.refusals.specs.Numbers.{number_of, table_of}
 use Rattle.state.specs.Promises.{Answers}
 
-pub refuses : (s : State) (c : Call) (r : Refusal) (a : Answer) (t : State) → (a ≡ Refused r) × (t ≡ s)
+pub refuses : (s : State) (c : Call) (r : Refusal) (a : Result Unit Refusal) (t : State) → (a ≡ Err r) × (t ≡ s)
     → ((w : Standing) (L : List ℕ) → Proper w → Holds s w → Largest w L → refusal w L c ≡ number (table_of r)) → Answers s c (number_of a) t
 refuses s c r a t (ea, et) why h w L l hold most =
     let e = why w L (leaves_proper l) hold most in

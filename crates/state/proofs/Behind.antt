@@ -1,23 +1,26 @@
 -- A rule written behind those that are there: the heads and the room are then those of one rule more. Assumes nothing.
-use mathlib.Core.Path.{◌≡◌, sym, ap, ◌∙◌}
+use mathlib.Core.Path.{◌≡◌, sym, ap, ap₂, ◌∙◌}
 use mathlib.Core.List.{List, [], ◌∷◌, ◌++◌, map, append_assoc}
-use Prim.Native.Nat.{ℕ, ◌+◌, ◌*◌, ◌/◌, ◌%◌, ◌≤◌, ◌<◌}
-use native.Mathlib.Nat.{zero-add, div-add-mod'}
+use Prim.Native.Nat.{ℕ, ◌+◌, ◌/◌, ◌%◌, ◌≤◌, ◌<◌}
+use native.Mathlib.Nat.{div-add-mod'}
 use native.Mathlib.Omega.{arith}
 use lib.IntN.{ℤ}
-use lib.ListN.{length, length-append, length-map}
-use lib.Seq.{paste, sets}
+use lib.ListN.{length, set, length-append, length-map}
+use lib.Seq.{paste}
 use Rattle.meaning.specs.Limits.{rule_limit, room_limit, coefficient_limit}
-use Rattle.meaning.specs.Rules.{Rule, linear, scope_of, room}
+use Rattle.meaning.specs.Rules.{Rule, linear, room}
 use Rattle.meaning.specs.Calls.{Sort, allow, forbid, held, tuples_of, rule_of}
-use Rattle.filters.specs.Layout.{shift, joined, sort_of, last_of, numbers_of, head_of, heads_of, room_of, padded}
-use Rattle.state.specs.Writing.{Put, PutHead}
-use Rattle.filters.proofs.Padding.{paste_padded, sets_padded, padded_zero}
+use Rattle.filters.specs.declared.Head.{Head}
+use Rattle.filters.specs.Layout.{shift, no_head, joined, numbers_of, head_of, heads_of, room_of, filled, padded}
+use Rattle.filters.proofs.Padding.{paste_padded, filled_more, filled_set}
 use Rattle.filters.proofs.Rooms.{AllProper, joined_rows, length_heads_of, length_room_of, heads_of_more, room_of_more}
 
 -- numbers put behind the list in a padded room
+abbrev pub Put : List ℕ → ℕ → List ℕ → List ℕ → Type 0
+Put before at more after = after ≡ paste before at more (length more)
+
 put_behind : (l more before after : List ℕ) (at : ℕ) → length l ≡ at → before ≡ padded room_limit l → Put before at more after → after ≡ padded room_limit (l ++ more)
-put_behind l more before after at e b p = p.is ∙ ap (λ (d : List ℕ). paste d at more (length more)) b ∙ paste_padded room_limit l more at e
+put_behind l more before after at e b p = p ∙ ap (λ (d : List ℕ). paste d at more (length more)) b ∙ paste_padded room_limit l more at e
 
 table_numbers : (sort : Sort) (s cells : List ℕ) → length cells % length s ≡ 0 → numbers_of (rule_of sort s cells) ≡ s ++ cells
 table_numbers sort s cells h = by sort
@@ -30,19 +33,20 @@ table_numbers sort s cells h = by sort
     by forbid = ap (λ (l : List ℕ). s ++ l) whole
 
 module _ {n : ℕ} (rs : List Rule) (proper : AllProper n rs) where
-  pub head_added : (r : Rule) (before after : List ℕ) → length rs < rule_limit → before ≡ padded (4 * rule_limit) (heads_of 0 rs)
-      → PutHead before (length rs) (sort_of r) (length (scope_of r)) (held rs) (last_of r) after → after ≡ padded (4 * rule_limit) (heads_of 0 (rs ++ (r ∷ [])))
-  head_added r before after few b p =
-      let at = 4 * length rs in
-      let start : 0 + held rs ≡ held rs = zero-add (held rs) in
-      p.is
-      ∙ ap (λ (d : List ℕ). sets d at (head_of (held rs) r)) b
-      ∙ sets_padded (4 * rule_limit) (heads_of 0 rs) (head_of (held rs) r) at (length_heads_of 0 rs) (omega arith)
-      ∙ ap (padded (4 * rule_limit)) (sym (heads_of_more 0 rs r ∙ ap (λ (k : ℕ). heads_of 0 rs ++ head_of k r) start))
+  pub head_added : (r : Rule) (before after : List Head) → length rs < rule_limit → before ≡ filled no_head rule_limit (heads_of 0 rs)
+      → after ≡ set before (length rs) (head_of (held rs) r) → after ≡ filled no_head rule_limit (heads_of 0 (rs ++ (r ∷ [])))
+  head_added r before after few b e =
+      let count : length rs ≡ length (heads_of 0 rs) = sym (length_heads_of 0 rs) in
+      let start : held rs ≡ 0 + held rs = omega arith in
+      e
+      ∙ ap₂ (λ (hs : List Head) (k : ℕ). set hs k (head_of (held rs) r)) b count
+      ∙ filled_set no_head rule_limit (heads_of 0 rs) (head_of (held rs) r) (omega (arith, length_heads_of 0 rs))
+      ∙ ap (λ (k : ℕ). filled no_head rule_limit (heads_of 0 rs ++ (head_of k r ∷ []))) start
+      ∙ ap (filled no_head rule_limit) (sym (heads_of_more 0 rs r))
 
-  module _ (before : List ℕ) (filled : before ≡ padded room_limit (room_of rs)) (s : List ℕ) (mid : List ℕ) (scope_put : Put before (held rs) s mid) where
+  module _ (before : List ℕ) (so_far : before ≡ padded room_limit (room_of rs)) (s : List ℕ) (mid : List ℕ) (scope_put : Put before (held rs) s mid) where
     with_scope : mid ≡ padded room_limit (room_of rs ++ s)
-    with_scope = put_behind (room_of rs) s before mid (held rs) (length_room_of rs proper) filled scope_put
+    with_scope = put_behind (room_of rs) s before mid (held rs) (length_room_of rs proper) so_far scope_put
 
     long_scope : length (room_of rs ++ s) ≡ held rs + length s
     long_scope = omega (arith, length-append (room_of rs) s, length_room_of rs proper)
@@ -63,7 +67,7 @@ module _ {n : ℕ} (rs : List Rule) (proper : AllProper n rs) where
         let kept = map (shift coefficient_limit) cs in
         let long = length-append (room_of rs ++ s) kept in
         put_behind (room_of rs ++ s) kept mid after (held rs + length s) long_scope with_scope p
-        ∙ sym (padded_zero room_limit (room_of rs ++ s ++ kept) (omega (arith, long_scope, length-map cs (shift coefficient_limit))))
+        ∙ sym (filled_more 0 room_limit (room_of rs ++ s ++ kept) (omega (arith, long_scope, length-map cs (shift coefficient_limit))))
         ∙ ap (padded room_limit)
         (ap (λ (m : List ℕ). m ++ (0 ∷ [])) (append_assoc (room_of rs) s kept)
         ∙ append_assoc (room_of rs) (s ++ kept) (0 ∷ [])

@@ -1,12 +1,13 @@
 -- The lists follow a new rule: what is asked of the state with the rule written in it, and what it holds once they have. Assumes nothing.
-use mathlib.Core.Path.{◌≡◌, refl, sym, ap, ◌∙◌}
+use mathlib.Core.Path.{◌≡◌, sym, ap, ◌∙◌}
 use mathlib.Core.Logic.{◌⊎◌, inr, ⊎_elim, by_cases}
-use mathlib.Core.List.{List, [], ◌∷◌, ◌++◌}
+use mathlib.Core.List.Memᴰ
+use mathlib.Core.List.{List, [], ◌∷◌, ◌++◌, Memᴰ}
 use Prim.Native.Nat.{ℕ, zero, suc, ◌+◌, ◌*◌, ◌≤◌, ◌<◌}
 use native.Mathlib.Decide.{ℕ_discrete}
 use native.Mathlib.Omega.{arith}
-use lib.ListN.{length, get_or, take, length-append, get_or-eq_default}
-use lib.Seq.{sets, length-sets, length-take-le, take_at, take-length}
+use lib.ListN.{length, get_or, take, length-append, get_or-append, get_or-map, get_or-eq_default}
+use lib.Seq.{sets, length-sets, length-take-le}
 use Rattle.meaning.specs.Limits.{variable_limit}
 use Rattle.meaning.specs.Rules.{Rule}
 use Rattle.meaning.specs.Standing.{Standing}
@@ -16,19 +17,23 @@ use Rattle.meaning.specs.Histories.{Leaves}
 use Rattle.meaning.specs.Proper.{Proper}
 use Rattle.meaning.proofs.Steps.{rule_between}
 use Rattle.state.specs.declared.State.{State}
-use Rattle.filters.specs.Layout.{rules_at, rule_at}
-use Rattle.filters.specs.Filter.{Filtering, LargestIn}
-use Rattle.filters.specs.Filter.{ClosedBy}
+use Rattle.filters.specs.Layout.{no_head, rule_under, rules_at, rule_at}
+use Rattle.filters.specs.Held.{InRoom}
+use Rattle.filters.specs.declared.Head.{Head}
+use Rattle.filters.specs.Filter.{Filtering, FiltersBy, LargestIn, ClosedBy}
 use Rattle.blocks.specs.Blocks.{block}
-use Rattle.state.specs.Holds.{Holds, HoldsLists, up_to}
+use Rattle.state.specs.Holds.{Holds, HoldsLists, up_to, heads_held}
 use Rattle.state.specs.Additions.{LaidOut, Followable, Followed}
 use Rattle.state.proofs.Holding.{current, none_of}
 use Rattle.blocks.proofs.Reading.{block_length}
 use Rattle.filters.proofs.Closing.{follows_none, follows_some, empty_within}
 use Rattle.state.proofs.Depths.{wide_block, settled, first_within, within_first, same_within}
 use Rattle.blocks.proofs.Writing.{written_in, block_written, block_stays}
-use Rattle.filters.proofs.Laid.{first_rules}
-use Rattle.filters.proofs.Closing.{closed_kept, closed_by_each}
+use Rattle.filters.proofs.Cells.{mem_at}
+use Rattle.filters.proofs.Rooms.{length_heads_of}
+use Rattle.filters.proofs.Laid.{laid_rules}
+use Rattle.filters.proofs.Closing.{closed_kept}
+use Rattle.state.proofs.Reading.{first_heads}
 
 abbrev pub with_lists : State → List ℕ → State
 with_lists s l = record {
@@ -65,33 +70,32 @@ module _ (s t : State) (w : Standing) (r : Rule) (p : Proper w) (q : Proper (wit
   unfolding narrow
   now_left = rw none at (current hold)
 
-  count : t.rules ≡ length w.rules + 1
-  count = l.rules ∙ length-append w.rules (r ∷ [])
+  in_room : InRoom (w.rules ++ (r ∷ [])) (heads_held t) t.room
+  in_room = record { heads_are = first_heads (w.rules ++ (r ∷ [])) t.rules t.heads l.rules l.heads; room_is = l.room }
 
-  old_rules : rules_at t.heads t.room (length w.rules) ≡ w.rules
-  old_rules =
-      first_rules (w.rules ++ (r ∷ [])) q.rules t.heads t.room l.heads l.room (length w.rules) (omega (arith, length-append w.rules (r ∷ [])))
-      ∙ take_at w.rules (r ∷ []) (length w.rules) refl
+  count : length (heads_held t) ≡ length w.rules + 1
+  count = ap length in_room.heads_are ∙ length_heads_of 0 (w.rules ++ (r ∷ [])) ∙ length-append w.rules (r ∷ [])
 
-  all_rules : rules_at t.heads t.room t.rules ≡ w.rules ++ (r ∷ [])
-  all_rules =
-      ap (rules_at t.heads t.room) l.rules
-      ∙ first_rules (w.rules ++ (r ∷ [])) q.rules t.heads t.room l.heads l.room (length (w.rules ++ (r ∷ []))) (omega arith)
-      ∙ take-length (w.rules ++ (r ∷ []))
+  all_rules : rules_at (heads_held t) t.room ≡ w.rules ++ (r ∷ [])
+  all_rules = laid_rules (with_rule w r) q in_room
+
+  old_rule : (k : ℕ) → k < length w.rules → Memᴰ (rule_at (heads_held t) t.room k) w.rules
+  old_rule k i =
+      let d = rule_under t.room no_head in
+      let e = sym (get_or-map (rule_under t.room) (heads_held t) k no_head) ∙ ap (λ (rs : List Rule). get_or rs k d) all_rules ∙ get_or-append w.rules (r ∷ []) d k i in
+      Memᴰ.cast e (mem_at w.rules k d i)
 
   pub followable : {g : List Call} → Leaves g (with_rule w r) → Followable t s.rules
   unfolding wide narrow
   followable {g} later = record {
-    held = (g, with_rule w r, later, record { count = l.rules; heads_are = l.heads; room_is = l.room });
+    held = (g, with_rule w r, later, in_room);
     lists = ap length l.lists ∙ hold.lists.long;
     known = omega (arith, count, hold.rules);
     others = rw l.lists others;
   }
     where
-      others : (k : ℕ) → k < t.rules → ¬ (k ≡ s.rules) → ClosedBy (rule_at t.heads t.room k) wide
-      others k i d =
-          closed_kept narrow wide (λ y m. same y)
-          (closed_by_each t.heads t.room narrow (length w.rules) (rw old_rules now_left.closed) k (omega (arith, count, hold.rules)))
+      others : (k : ℕ) → k < length (heads_held t) → ¬ (k ≡ s.rules) → ClosedBy (rule_at (heads_held t) t.room k) wide
+      others k i d = closed_kept narrow wide (λ y m. same y) (now_left.closed (rule_at (heads_held t) t.room k) (old_rule k (omega (arith, count, hold.rules))))
 
   -- once they have, the state holds what stands with the rule
   module _ (u : State) (f : Followed t u) where
@@ -158,28 +162,25 @@ module _ (s t : State) (w : Standing) (r : Rule) (p : Proper w) (q : Proper (wit
           lists = rw l.lists lists;
         })
 
--- as the code comes by it: from a copy of the block, and what is written back
-module _ (s : State) (k : ℕ) (ready : Followable s k) (b K l : List ℕ) (c : ℕ) (eb : b ≡ block s.lists 0 variable_limit) (f : Filtering (rule_at s.heads s.room k) b K c) where
-  closed_before : (j : ℕ) → j < s.rules → ¬ (j ≡ k) → ClosedBy (rule_at s.heads s.room j) b
+-- as the code comes by it: from the rules that are held, a copy of the block, and what is written back
+module _ (s : State) (k : ℕ) (ready : Followable s k) (heads : List Head) (room : List ℕ) (held : (heads ≡ heads_held s) × (room ≡ s.room)) (b K l : List ℕ) (c : ℕ)
+    (eb : b ≡ block s.lists 0 variable_limit) (filtered : FiltersBy heads room k b K c) where
+  f : Filtering (rule_at (heads_held s) s.room k) b K c
+  f = (rw (held.0, held.1) at filtered).by ready.known (ap length eb ∙ block_length s.lists 0 variable_limit ready.lists (omega arith) (omega arith))
+
+  closed_before : (j : ℕ) → j < length (heads_held s) → ¬ (j ≡ k) → ClosedBy (rule_at (heads_held s) s.room j) b
   closed_before j h d = rw eb (ready.others j h d)
 
-  pub followed_none : c ≡ 0 → l ≡ sets s.lists (variable_limit * 0) K → Followed s (with_lists s l)
-  followed_none z el = record {
-    left = K;
-    largest = rw eb at (follows_none s.heads s.room s.rules k ready.known closed_before f z);
-    is = ap (with_lists s) el;
-  }
-
-  pub followed_some : (M : List ℕ) → LargestIn (rules_at s.heads s.room s.rules) K M → l ≡ sets s.lists (variable_limit * 0) M → Followed s (with_lists s l)
-  followed_some M m el = record {
-    left = M;
-    largest = rw eb at (follows_some s.heads s.room s.rules k ready.known closed_before f M m);
-    is = ap (with_lists s) el;
-  }
-
-  -- from any lists that are those
   pub stays : (M : List ℕ) → l ≡ sets s.lists (variable_limit * 0) M → M ≡ K → c ≡ 0 → Followed s (with_lists s l)
-  stays M el e z = followed_none z (rw e at el)
+  stays M el e z = record {
+    left = K;
+    largest = rw eb at (follows_none (heads_held s) s.room k ready.known closed_before f z);
+    is = ap (with_lists s) (rw e at el);
+  }
 
-  pub goes_on : (M N : List ℕ) → l ≡ sets s.lists (variable_limit * 0) M → M ≡ N → LargestIn (rules_at s.heads s.room s.rules) K N → Followed s (with_lists s l)
-  goes_on M N el e m = followed_some N m (rw e at el)
+  pub goes_on : (M N : List ℕ) → l ≡ sets s.lists (variable_limit * 0) M → M ≡ N → LargestIn (rules_at heads room) K N → Followed s (with_lists s l)
+  goes_on M N el e m = record {
+    left = N;
+    largest = rw eb at (follows_some (heads_held s) s.room k ready.known closed_before f N (rw (held.0, held.1) at m));
+    is = ap (with_lists s) (rw e at el);
+  }

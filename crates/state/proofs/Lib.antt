@@ -8,6 +8,5 @@ pub mod Reading
 pub mod Testing
 pub mod Following
 pub mod Extending
-pub mod NewLinear
 pub mod Runs
 pub mod Unique

@@ -18,6 +18,7 @@ use Rattle.meaning.specs.Calls as Calls
 use Rattle.meaning.specs.Calls.{add_table, add_linear, some, beyond, tuples_of, rule_of, refusal}
 use Rattle.meaning.proofs.Proper.{passed, rows_count, table_room, some_no, beyond_no}
 use Rattle.meaning.proofs.Tests.{or_no}
+use Rattle.checks.specs.declared.Counts.{Counts}
 use Rattle.checks.specs.Tests.{table_tests, linear_tests}
 use Rattle.state.specs.Additions.{Counted, TableFits, TableTested, LinearFits, LinearTested}
 
@@ -49,44 +50,44 @@ module _ (s cells : List ℕ) where
   last_test a false e f g h same =
       ap (λ (z : Bool). first ((a, decided) ∷ (false, wrong_length) ∷ (e, no_such_variable) ∷ (f, variable_twice) ∷ (g, out_of_range) ∷ (h, tuple_twice) ∷ (z, full) ∷ [])) (same refl)
 
-  module _ (n d k u : ℕ) where
-    table_right : (w : Standing) (L : List ℕ) (sort : Calls.Sort) → Counted n d k u w → refusal w L (add_table sort s cells) ≡ first (table_tests n d k u s cells)
+  module _ (n : Counts) where
+    table_right : (w : Standing) (L : List ℕ) (sort : Calls.Sort) → Counted n w → refusal w L (add_table sort s cells) ≡ first (table_tests n s cells)
     table_right w L sort c =
         rw (c.variables, c.depth, c.rules, c.used)
         (last_test _ _ _ _ _ _ (λ fits. ap (λ (m : ℕ). leb rule_limit (length w.rules) || ltb room_limit (Calls.held w.rules + m)) (room_is sort (whole_tuples fits))))
 
-    table_fits : first (table_tests n d k u s cells) ≡ 0 → TableFits d k u s cells
+    table_fits : first (table_tests n s cells) ≡ 0 → TableFits n.depth n.rules n.used s cells
     table_fits e =
-        let p = passed (table_tests n d k u s cells) e in
+        let p = passed (table_tests n s cells) e in
         let size = inside arity_limit (length s) (or_no (outside arity_limit (length s)) (not (eqb (length cells % length s) 0)) p.1.0).0 in
-        let (count, room) = or_no (leb rule_limit k) (ltb room_limit (u + (length s + length cells))) p.1.1.1.1.1.1.0 in
-        let none = ltb-false 0 d p.0 in
+        let (count, room) = or_no (leb rule_limit n.rules) (ltb room_limit (n.used + (length s + length cells))) p.1.1.1.1.1.1.0 in
+        let none = ltb-false 0 n.depth p.0 in
         record {
           free = omega arith;
           some = size.0;
           few = size.1;
           whole = whole_tuples p.1.0;
-          count = leb-false rule_limit k count;
-          room = ltb-false room_limit (u + (length s + length cells)) room;
+          count = leb-false rule_limit n.rules count;
+          room = ltb-false room_limit (n.used + (length s + length cells)) room;
         }
 
-    pub table_tested : {m : ℕ} → m ≡ first (table_tests n d k u s cells) → TableTested n d k u s cells m
+    pub table_tested : {m : ℕ} → m ≡ first (table_tests n s cells) → TableTested n s cells m
     table_tested e = record { right = λ w L sort c. table_right w L sort c ∙ sym e; accepted = λ z. table_fits (sym e ∙ z) }
 
 -- ---- a linear rule
 
-module _ (s : List ℕ) (cs : List ℤ) (b : ℤ) (n d k u : ℕ) where
-  linear_right : (w : Standing) (L : List ℕ) → Counted n d k u w → refusal w L (add_linear s cs b) ≡ first (linear_tests n d k u s cs b)
+module _ (s : List ℕ) (cs : List ℤ) (b : ℤ) (n : Counts) where
+  linear_right : (w : Standing) (L : List ℕ) → Counted n w → refusal w L (add_linear s cs b) ≡ first (linear_tests n s cs b)
   linear_right w L c = rw (c.variables, c.depth, c.rules, c.used)
 
-  linear_fits : first (linear_tests n d k u s cs b) ≡ 0 → LinearFits d k u s cs b
+  linear_fits : first (linear_tests n s cs b) ≡ 0 → LinearFits n.depth n.rules n.used s cs b
   linear_fits e =
-      let p = passed (linear_tests n d k u s cs b) e in
+      let p = passed (linear_tests n s cs b) e in
       let (sized, same) = or_no (outside term_limit (length s)) (not (eqb (length cs) (length s))) p.1.0 in
       let size = inside term_limit (length s) sized in
       let (near, bound) = or_no (some (beyond coefficient_limit) cs) (beyond bound_limit b) p.1.1.1.1.0 in
-      let (count, room) = or_no (leb rule_limit k) (ltb room_limit (u + (2 * length s + 1))) p.1.1.1.1.1.0 in
-      let none = ltb-false 0 d p.0 in
+      let (count, room) = or_no (leb rule_limit n.rules) (ltb room_limit (n.used + (2 * length s + 1))) p.1.1.1.1.1.0 in
+      let none = ltb-false 0 n.depth p.0 in
       record {
         free = omega arith;
         some = size.0;
@@ -94,9 +95,9 @@ module _ (s : List ℕ) (cs : List ℤ) (b : ℤ) (n d k u : ℕ) where
         long = eqb-true (length cs) (length s) (not-false _ same);
         near = λ z m. beyond_no coefficient_limit z (some_no (beyond coefficient_limit) cs near z m);
         bound = beyond_no bound_limit b bound;
-        count = leb-false rule_limit k count;
-        room = ltb-false room_limit (u + (2 * length s + 1)) room;
+        count = leb-false rule_limit n.rules count;
+        room = ltb-false room_limit (n.used + (2 * length s + 1)) room;
       }
 
-  pub linear_tested : {m : ℕ} → m ≡ first (linear_tests n d k u s cs b) → LinearTested n d k u s cs b m
+  pub linear_tested : {m : ℕ} → m ≡ first (linear_tests n s cs b) → LinearTested n s cs b m
   linear_tested e = record { right = λ w L c. linear_right w L c ∙ sym e; accepted = λ z. linear_fits (sym e ∙ z) }

@@ -14,7 +14,8 @@ use Rattle.meaning.specs.Calls.{Call, add_table, add_linear}
 use Rattle.meaning.proofs.Largest.{largest_unique}
 use Rattle.state.specs.declared.State.{State}
 use Rattle.state.specs.declared.Sort.{Sort}
-use Rattle.refusals.specs.declared.Answer.{Answer}
+use Rattle.std.specs.Prelude.{Result}
+use Rattle.refusals.specs.declared.Refusal.{Refusal}
 use Rattle.state.specs.Holds.{Holds, HoldsLists, Reached}
 use Rattle.refusals.proofs.Unique.{answer_unique}
 use Rattle.refusals.specs.Numbers.{number_of}
@@ -66,10 +67,10 @@ module _ {s : State} (reached : Reached s) where
       (e ∙ sym f, holds_unique x y)
 
   -- the same for the answers that the code gives
-  pub answers_unique : (c : Call) {a b : Answer} {t u : State} → Answers s c (number_of a) t → Answers s c (number_of b) u → (a ≡ b) × (t ≡ u)
+  pub answers_unique : (c : Call) {a b : Result Unit Refusal} {t u : State} → Answers s c (number_of a) t → Answers s c (number_of b) u → (a ≡ b) × (t ≡ u)
   answers_unique c {a} {b} x y = let (e, f) = call_unique c x y in (answer_unique a b e, f)
 
-  module _ (a b : Answer) {t u : State} (scope : List ℕ) where
+  module _ (a b : Result Unit Refusal) {t u : State} (scope : List ℕ) where
     pub add_table_unique : (sort : Sort) (cells : List ℕ) → AddsTable s sort scope cells a t → AddsTable s sort scope cells b u → (a ≡ b) × (t ≡ u)
     add_table_unique sort cells = answers_unique (add_table (sort_said sort) scope cells)
 

@@ -9,27 +9,35 @@ use Rattle.meaning.specs.Calls.{Call, add_table, add_linear, refusal, held, with
 use Rattle.meaning.specs.Histories.{Leaves}
 use Rattle.meaning.specs.Proper.{Around}
 use Rattle.blocks.specs.Blocks.{block, block_places}
+use Rattle.checks.specs.declared.Counts.{Counts}
 use Rattle.state.specs.declared.State.{State}
 use Rattle.state.specs.declared.Sort.{Sort}
 use Rattle.state.specs.declared.Sort.TheVariants.{Allow, Forbid}
-use Rattle.filters.specs.Layout.{heads_of, room_of, padded, rule_at, rules_at}
+use Rattle.filters.specs.declared.Kind.{Kind}
+use Rattle.filters.specs.declared.Kind.TheVariants as Kinds
+use Rattle.filters.specs.Layout.{no_head, heads_of, room_of, filled, padded, rule_at, rules_at}
 use Rattle.filters.specs.Filter.{ClosedBy, LargestIn}
 use Rattle.filters.specs.Held.{RulesOf}
 use Rattle.state.specs.Writing.{InRange}
-use Rattle.state.specs.Holds.{Holds}
+use Rattle.state.specs.Holds.{Holds, heads_held}
 
-abbrev pub sort_number : Sort → ℕ
-sort_number Allow = 0
-sort_number Forbid = 1
+-- the kind of a table
+abbrev pub kind_said : Sort → Kind
+kind_said Allow = Kinds.Allow
+kind_said Forbid = Kinds.Forbid
 
 -- ---- the tests
 
+-- how much stands in the state
+abbrev pub counts_of : State → Counts
+counts_of s = record { variables = s.variables; depth = s.depth; rules = s.rules; used = s.used }
+
 -- so many variables, decisions and rules stand, and so much of the room is used
-pub record Counted (n d k u : ℕ) (w : Standing) : Type 0 where
-  pub variables : n ≡ length w.declared
-  pub depth : d ≡ length w.decisions
-  pub rules : k ≡ length w.rules
-  pub used : u ≡ held w.rules
+pub record Counted (n : Counts) (w : Standing) : Type 0 where
+  pub variables : n.variables ≡ length w.declared
+  pub depth : n.depth ≡ length w.decisions
+  pub rules : n.rules ≡ length w.rules
+  pub used : n.used ≡ held w.rules
 
 -- the table may be added
 pub record TableFits (depth rules used : ℕ) (s cells : List ℕ) : Type 0 where
@@ -40,9 +48,9 @@ pub record TableFits (depth rules used : ℕ) (s cells : List ℕ) : Type 0 wher
   pub count : rules < rule_limit
   pub room : used + (length s + length cells) ≤ room_limit
 
-pub record TableTested (variables depth rules used : ℕ) (s cells : List ℕ) (number : ℕ) : Type 0 where
-  pub right : (w : Standing) (L : List ℕ) (sort : Calls.Sort) → Counted variables depth rules used w → refusal w L (add_table sort s cells) ≡ number
-  pub accepted : number ≡ 0 → TableFits depth rules used s cells
+pub record TableTested (n : Counts) (s cells : List ℕ) (number : ℕ) : Type 0 where
+  pub right : (w : Standing) (L : List ℕ) (sort : Calls.Sort) → Counted n w → refusal w L (add_table sort s cells) ≡ number
+  pub accepted : number ≡ 0 → TableFits n.depth n.rules n.used s cells
 
 -- the linear rule may be added
 pub record LinearFits (depth rules used : ℕ) (s : List ℕ) (cs : List ℤ) (b : ℤ) : Type 0 where
@@ -55,9 +63,9 @@ pub record LinearFits (depth rules used : ℕ) (s : List ℕ) (cs : List ℤ) (b
   pub count : rules < rule_limit
   pub room : used + (2 * length s + 1) ≤ room_limit
 
-pub record LinearTested (variables depth rules used : ℕ) (s : List ℕ) (cs : List ℤ) (b : ℤ) (number : ℕ) : Type 0 where
-  pub right : (w : Standing) (L : List ℕ) → Counted variables depth rules used w → refusal w L (add_linear s cs b) ≡ number
-  pub accepted : number ≡ 0 → LinearFits depth rules used s cs b
+pub record LinearTested (n : Counts) (s : List ℕ) (cs : List ℤ) (b : ℤ) (number : ℕ) : Type 0 where
+  pub right : (w : Standing) (L : List ℕ) → Counted n w → refusal w L (add_linear s cs b) ≡ number
+  pub accepted : number ≡ 0 → LinearFits n.depth n.rules n.used s cs b
 
 -- ---- the rule's place
 
@@ -66,7 +74,7 @@ pub record LaidOut (t : State) (w : Standing) (l : List ℕ) : Type 0 where
   pub variables : t.variables ≡ length w.declared
   pub declared : t.declared ≡ padded variable_limit w.declared
   pub rules : t.rules ≡ length w.rules
-  pub heads : t.heads ≡ padded (4 * rule_limit) (heads_of 0 w.rules)
+  pub heads : t.heads ≡ filled no_head rule_limit (heads_of 0 w.rules)
   pub used : t.used ≡ held w.rules
   pub room : t.room ≡ padded room_limit (room_of w.rules)
   pub objectives : t.objectives ≡ length w.objectives
@@ -81,15 +89,15 @@ Extends s r t = (h : List Call) (w : Standing) → Leaves h w → Holds s w → 
 
 -- the lists of depth 0 are closed by every rule but the k-th
 pub record Followable (s : State) (k : ℕ) : Type 0 where
-  pub held : RulesOf s.heads s.room s.rules
+  pub held : RulesOf (heads_held s) s.room
   pub lists : length s.lists ≡ block_places
-  pub known : k < s.rules
-  pub others : (j : ℕ) → j < s.rules → ¬ (j ≡ k) → ClosedBy (rule_at s.heads s.room j) (block s.lists 0 variable_limit)
+  pub known : k < length (heads_held s)
+  pub others : (j : ℕ) → j < length (heads_held s) → ¬ (j ≡ k) → ClosedBy (rule_at (heads_held s) s.room j) (block s.lists 0 variable_limit)
 
 -- they are the largest closed lists within those
 pub record Followed (s t : State) : Type 0 where
   pub left : List ℕ
-  pub largest : LargestIn (rules_at s.heads s.room s.rules) (block s.lists 0 variable_limit) left
+  pub largest : LargestIn (rules_at (heads_held s) s.room) (block s.lists 0 variable_limit) left
   pub is : t ≡ record {
     variables = s.variables;
     declared = s.declared;

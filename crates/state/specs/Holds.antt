@@ -1,4 +1,4 @@
--- What it is for a state to hold what stands. Every place past the counts is 0, so that two states that hold the same are equal.
+-- What it is for a state to hold what stands. Every place past the counts is 0 or the head of no rule, so that two states that hold the same are equal.
 use Rattle.std.specs.Prelude.{◌≡◌, ◌⊎◌, List, ℕ, ◌+◌, ◌*◌, ◌≤◌, ◌<◌, length, get_or, take}
 use Rattle.meaning.specs.Limits.{variable_limit, rule_limit, room_limit, objective_limit}
 use Rattle.meaning.specs.Standing.{Standing}
@@ -7,7 +7,12 @@ use Rattle.meaning.specs.Calls.{Call, held, with_decisions}
 use Rattle.meaning.specs.Histories.{Leaves}
 use Rattle.blocks.specs.Blocks.{block, block_places}
 use Rattle.state.specs.declared.State.{State}
-use Rattle.filters.specs.Layout.{heads_of, room_of, padded}
+use Rattle.filters.specs.declared.Head.{Head}
+use Rattle.filters.specs.Layout.{no_head, heads_of, room_of, filled, padded}
+
+-- the heads of the rules that stand
+abbrev pub heads_held : State → List Head
+heads_held s = take s.rules s.heads
 
 -- what stood after the first k decisions; a newly named objective vector stays
 abbrev pub up_to : Standing → ℕ → Standing
@@ -22,7 +27,7 @@ pub record Holds (s : State) (w : Standing) : Type 0 where
   pub variables : s.variables ≡ length w.declared
   pub declared : s.declared ≡ padded variable_limit w.declared
   pub rules : s.rules ≡ length w.rules
-  pub heads : s.heads ≡ padded (4 * rule_limit) (heads_of 0 w.rules)
+  pub heads : s.heads ≡ filled no_head rule_limit (heads_of 0 w.rules)
   pub used : s.used ≡ held w.rules
   pub room : s.room ≡ padded room_limit (room_of w.rules)
   pub objectives : s.objectives ≡ length w.objectives

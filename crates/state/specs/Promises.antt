@@ -1,5 +1,5 @@
 -- What a call promises: document 01's number for its answer, and the state that holds what stands after it, refused or accepted.
-use Rattle.std.specs.Prelude.{◌≡◌, List, ℕ, ℤ}
+use Rattle.std.specs.Prelude.{◌≡◌, List, ℕ, ℤ, Result}
 use Rattle.meaning.specs.Standing.{Standing}
 use Rattle.meaning.specs.Lists.{Largest}
 use Rattle.meaning.specs.Calls as Calls
@@ -8,7 +8,7 @@ use Rattle.meaning.specs.Histories.{Leaves}
 use Rattle.state.specs.declared.State.{State}
 use Rattle.state.specs.declared.Sort.{Sort}
 use Rattle.state.specs.declared.Sort.TheVariants.{Allow, Forbid}
-use Rattle.refusals.specs.declared.Answer.{Answer}
+use Rattle.refusals.specs.declared.Refusal.{Refusal}
 use Rattle.refusals.specs.Numbers.{number_of}
 use Rattle.state.specs.Holds.{Holds}
 
@@ -22,9 +22,9 @@ Answers s c number t =
     (h : List Call) (w : Standing) (L : List ℕ) → Leaves h w → Holds s w → Largest w L → (number ≡ refusal w L c) × Holds t (after w L c)
 
 -- adding a table of allowed or forbidden tuples, whose values are the cells, gives the answer and leaves the state t
-abbrev pub AddsTable : State → Sort → List ℕ → List ℕ → Answer → State → Type 0
+abbrev pub AddsTable : State → Sort → List ℕ → List ℕ → Result Unit Refusal → State → Type 0
 AddsTable s sort scope cells answer t = Answers s (add_table (sort_said sort) scope cells) (number_of answer) t
 
 -- adding a linear constraint gives the answer and leaves the state t
-abbrev pub AddsLinear : State → List ℕ → List ℤ → ℤ → Answer → State → Type 0
+abbrev pub AddsLinear : State → List ℕ → List ℤ → ℤ → Result Unit Refusal → State → Type 0
 AddsLinear s scope coefficients bound answer t = Answers s (add_linear scope coefficients bound) (number_of answer) t

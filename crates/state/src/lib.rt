@@ -1,21 +1,25 @@
 // The rota state, and adding rules to it.
 #![tactic(auto)]
 
+ghost use Rattle.std.specs.Prelude.{◌≡◌, Ok, Err};
+ghost use Rattle.state.specs.Holds.{heads_held};
+ghost use Rattle.state.specs.Additions.{kind_said};
+
 mod adding;
 mod writing;
 
 pub use adding::{add_linear, add_table};
-use refusals::Answer;
+use filters::{Head, Kind, Rules};
+use refusals::Refusal;
 
-// What stands, laid out in flat arrays: counts, and zeros past them.
+// What stands, laid out in flat arrays: counts, and zeros, or heads of no rule, past them.
 #[derive(Clone, Copy)]
 pub struct State {
     pub variables: usize,
     // a set of values for each variable
     pub declared: [u64; 32],
     pub rules: usize,
-    // four numbers for each rule: its sort, arity, start in the room, and number of tuples or bound
-    pub heads: [u32; 192],
+    pub heads: [Head; 48],
     pub used: usize,
     pub room: [u16; 4096],
     pub objectives: usize,
@@ -25,14 +29,60 @@ pub struct State {
     pub lists: [u64; 1056],
 }
 
-#[derive(Clone, Copy)]
+impl State {
+    // The rules that stand.
+    pub fn rules_held(&self) -> Rules<'_>
+        ensures { (result.heads.now ≡ heads_held self.now) × (result.room.now ≡ self.now.room) }
+    {
+        Rules {
+            heads: &self.heads[..self.rules.min(meaning::RULES)],
+            room: &self.room,
+        }
+    }
+}
+
+#[derive(Clone, Copy, Debug, PartialEq, Eq)]
 pub enum Sort {
     Allow,
     Forbid,
 }
 
+impl From<Sort> for Kind {
+    ghost from_gives = { λ sort kind. kind ≡ kind_said sort };
+
+    fn from(sort: Sort) -> Kind {
+        match sort {
+            Sort::Allow => Kind::Allow,
+            Sort::Forbid => Kind::Forbid,
+        }
+    }
+}
+
+// What a call answers, and the state that it leaves.
 #[derive(Clone, Copy)]
 pub struct AfterCall {
-    pub answer: Answer,
+    pub answer: Result<(), Refusal>,
     pub state: State,
+}
+
+impl AfterCall {
+    // An accepted call, and what it leaves.
+    pub fn accepted(state: State) -> AfterCall
+        ensures { (result.answer ≡ Ok tt) × (result.state ≡ state) }
+    {
+        AfterCall {
+            answer: Ok(()),
+            state,
+        }
+    }
+
+    // A refused call, and the state as it stood.
+    pub fn refused(refusal: Refusal, state: State) -> AfterCall
+        ensures { (result.answer ≡ Err refusal) × (result.state ≡ state) }
+    {
+        AfterCall {
+            answer: Err(refusal),
+            state,
+        }
+    }
 }

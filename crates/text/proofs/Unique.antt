@@ -4,8 +4,9 @@ use mathlib.Core.Path.{◌≡◌, sym, ◌∙◌}
 use mathlib.Core.List.{List}
 use Prim.Native.Nat.{ℕ}
 use Rattle.text.specs.declared.ByteSort.{ByteSort}
-use Rattle.text.specs.declared.NumberRead.{NumberRead}
-use Rattle.text.specs.declared.NameRead.{NameRead}
+use Rattle.std.specs.Prelude.{Result}
+use Rattle.text.specs.declared.Number.{Number}
+use Rattle.text.specs.declared.Malformed.{Malformed}
 use Rattle.text.specs.Bytes.{IsSortOf}
 use Rattle.text.specs.Words.{SkipsBlanks}
 use Rattle.text.specs.Tokens.{ReadsNumber, ReadsName}
@@ -17,8 +18,8 @@ module _ (text : List ℕ) (at : ℕ) where
   pub skip_blanks_unique : (r s : ℕ) → SkipsBlanks text at r → SkipsBlanks text at s → r ≡ s
   skip_blanks_unique r s h k = h ∙ sym k
 
-  pub read_number_unique : (r s : NumberRead) → ReadsNumber text at r → ReadsNumber text at s → r ≡ s
+  pub read_number_unique : (r s : Result Number Malformed) → ReadsNumber text at r → ReadsNumber text at s → r ≡ s
   read_number_unique r s h k = h ∙ sym k
 
-  pub read_name_unique : (r s : NameRead) → ReadsName text at r → ReadsName text at s → r ≡ s
+  pub read_name_unique : (r s : Result ℕ Malformed) → ReadsName text at r → ReadsName text at s → r ≡ s
   read_name_unique r s h k = h ∙ sym k

@@ -1,19 +1,15 @@
 -- Where tokens begin and end: a token is a longest run without a blank.
-use Rattle.std.specs.Prelude.{◌≡◌, Bool, not, cond, List, [], ◌∷◌, ℕ, suc, ◌+◌, take, drop}
+use Rattle.std.specs.Prelude.{◌≡◌, not, List, ℕ, ◌+◌, take, drop}
+use Rattle.std.specs.List.{prefix_len}
 use Rattle.text.specs.Bytes.{is_blank}
 
--- how many bytes that pass a test a text begins with
-unfoldable pub front : (ℕ → Bool) → List ℕ → ℕ
-front p [] = 0
-front p (b ∷ t) = cond (p b) (suc (front p t)) 0
-
--- how many blanks it begins with
+-- how many blanks a text begins with
 unfoldable pub blanks : List ℕ → ℕ
-blanks t = front is_blank t
+blanks t = prefix_len is_blank t
 
 -- how many bytes it begins with that aren't blank
 unfoldable pub run : List ℕ → ℕ
-run t = front (λ b. not (is_blank b)) t
+run t = prefix_len (λ b. not (is_blank b)) t
 
 -- where the next token from a place on begins; the text's length where there is none
 unfoldable pub token_start : List ℕ → ℕ → ℕ

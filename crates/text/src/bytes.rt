@@ -20,20 +20,14 @@ pub fn sort_of(byte: u8) -> ByteSort
 pub(crate) fn is_blank(byte: u8) -> bool
     ensures { result ≡ is_blank byte }
 {
-    match sort_of(byte) {
-        ByteSort::Blank => true,
-        _ => false,
-    }
+    matches!(sort_of(byte), ByteSort::Blank)
 }
 
 #[tactic(auto, unfolding(crate::specs::Bytes::is_digit))]
 pub(crate) fn is_digit(byte: u8) -> bool
     ensures { result ≡ is_digit byte }
 {
-    match sort_of(byte) {
-        ByteSort::Digit => true,
-        _ => false,
-    }
+    matches!(sort_of(byte), ByteSort::Digit)
 }
 
 // Whether the byte is a digit or another mark.
@@ -41,8 +35,5 @@ pub(crate) fn is_digit(byte: u8) -> bool
 pub(crate) fn is_visible(byte: u8) -> bool
     ensures { result ≡ is_visible byte }
 {
-    match sort_of(byte) {
-        ByteSort::Digit | ByteSort::Mark => true,
-        _ => false,
-    }
+    matches!(sort_of(byte), ByteSort::Digit | ByteSort::Mark)
 }

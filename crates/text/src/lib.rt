@@ -11,7 +11,7 @@ pub use reading::{read_name, read_number};
 pub use words::skip_blanks;
 
 // A mark is none of the digits; a token that holds a bad byte is malformed.
-#[derive(Clone, Copy)]
+#[derive(Clone, Copy, Debug, PartialEq, Eq)]
 pub enum ByteSort {
     Blank,
     Digit,
@@ -19,22 +19,16 @@ pub enum ByteSort {
     Bad,
 }
 
-// The next token: where it begins and, where it is a number, which, and the place after it.
-#[derive(Clone, Copy)]
-pub enum NumberRead {
-    Malformed {
-        start: usize,
-    },
-    Number {
-        value: u32,
-        start: usize,
-        after: usize,
-    },
+// A number, where its token begins, and the place after it.
+#[derive(Clone, Copy, Debug, PartialEq, Eq)]
+pub struct Number {
+    pub value: u32,
+    pub start: usize,
+    pub after: usize,
 }
 
-// The same for a name.
-#[derive(Clone, Copy)]
-pub enum NameRead {
-    NoName { start: usize },
-    Name { after: usize },
+// The next token is not what was asked for; where it begins.
+#[derive(Clone, Copy, Debug, PartialEq, Eq)]
+pub struct Malformed {
+    pub start: usize,
 }

@@ -1,15 +1,13 @@
 // What tokens say.
 ghost use Rattle.std.specs.Prelude.{◌≡◌, ◌+◌, ◌^◌, ◌<◌, length};
+ghost use Rattle.std.specs.List.{list_all};
 ghost use Rattle.text.specs.Bytes.{within, is_visible};
-ghost use Rattle.text.specs.Tokens.{every, number_in, name_in, number_at, name_at};
+ghost use Rattle.text.specs.Tokens.{number_in, name_in};
 
 use crate::bytes::{is_digit, is_visible};
-use crate::words::{skip_blanks, token_at};
-use crate::{NameRead, NumberRead};
+use crate::{Malformed, Number};
 
 const MOST_DIGITS: usize = 10;
-
-const LARGEST: u64 = 4_294_967_295;
 
 const LONGEST_NAME: usize = 64;
 
@@ -17,83 +15,60 @@ const LONGEST_NAME: usize = 64;
 fn has_one_to(token: &[u8], most: usize) -> bool
     ensures { result ≡ within 1 most (length token.now) }
 {
-    if token.len() == 0 {
-        return false;
-    }
-    token.len() <= most
-}
-
-// What the token that begins at `start` says as a number.
-fn number_in(token: &[u8], start: usize) -> NumberRead
-    requires { start + length token.now < 2 ^ 64 }
-    ensures { result ≡ number_in token.now start }
-{
-    if !has_one_to(token, MOST_DIGITS) {
-        return NumberRead::Malformed { start };
-    }
-    let mut value: u64 = 0;
-    let mut read = 0;
-    while read < token.len() {
-        let byte = token[read];
-        if !is_digit(byte) {
-            return NumberRead::Malformed { start };
-        }
-        value = value * 10 + (byte - 48) as u64;
-        read += 1;
-    }
-    if LARGEST < value {
-        return NumberRead::Malformed { start };
-    }
-    NumberRead::Number {
-        value: value as u32,
-        start,
-        after: start + token.len(),
-    }
+    !token.is_empty() && token.len() <= most
 }
 
 fn all_visible(token: &[u8]) -> bool
-    ensures { result ≡ every is_visible token.now }
+    ensures { result ≡ list_all is_visible token.now }
 {
-    let mut i = 0;
-    while i < token.len() {
-        if !is_visible(token[i]) {
-            return false;
+    token.iter().all(|byte| is_visible(*byte))
+}
+
+// The bytes of a token, and where it begins.
+#[derive(Clone, Copy)]
+pub(crate) struct Token<'a> {
+    pub(crate) bytes: &'a [u8],
+    pub(crate) start: usize,
+}
+
+impl<'a> Token<'a> {
+    // What the token says as a number.
+    #[tactic(auto, using(crate::proofs::Sorts::digit_range), unfolding(crate::specs::Tokens::number_in, crate::specs::Tokens::is_number, crate::specs::Tokens::value_of))]
+    pub(crate) fn number(self) -> Result<Number, Malformed>
+        requires { self.start + length self.bytes.now < 2 ^ 64 }
+        ensures { result ≡ number_in self.entry.bytes.now self.entry.start }
+    {
+        let start = self.start;
+        let malformed = Malformed { start };
+        if !has_one_to(self.bytes, MOST_DIGITS) {
+            return Err(malformed);
         }
-        i += 1;
+        let mut value: u64 = 0;
+        for byte in self.bytes {
+            if !is_digit(*byte) {
+                return Err(malformed);
+            }
+            value = value * 10 + (*byte - 48) as u64;
+        }
+        let value = u32::try_from(value).map_err(|_| malformed)?;
+        let after = start + self.bytes.len();
+        Ok(Number {
+            value,
+            start,
+            after,
+        })
     }
-    true
-}
 
-// What the token that begins at `start` says as a name.
-fn name_in(token: &[u8], start: usize) -> NameRead
-    requires { start + length token.now < 2 ^ 64 }
-    ensures { result ≡ name_in token.now start }
-{
-    if !has_one_to(token, LONGEST_NAME) {
-        return NameRead::NoName { start };
+    // What the token says as a name: the place after it.
+    #[tactic(auto, unfolding(crate::specs::Tokens::name_in, crate::specs::Tokens::is_name))]
+    pub(crate) fn name(self) -> Result<usize, Malformed>
+        requires { self.start + length self.bytes.now < 2 ^ 64 }
+        ensures { result ≡ name_in self.entry.bytes.now self.entry.start }
+    {
+        if has_one_to(self.bytes, LONGEST_NAME) && all_visible(self.bytes) {
+            Ok(self.start + self.bytes.len())
+        } else {
+            Err(Malformed { start: self.start })
+        }
     }
-    if !all_visible(token) {
-        return NameRead::NoName { start };
-    }
-    NameRead::Name {
-        after: start + token.len(),
-    }
-}
-
-// The next token from `at` on, as a number.
-pub(crate) fn number_from(text: &[u8], at: usize) -> NumberRead
-    ensures { result ≡ number_at text.now at }
-{
-    let start = skip_blanks(text, at);
-    let token = token_at(text, start);
-    number_in(token, start)
-}
-
-// The next token from `at` on, as a name.
-pub(crate) fn name_from(text: &[u8], at: usize) -> NameRead
-    ensures { result ≡ name_at text.now at }
-{
-    let start = skip_blanks(text, at);
-    let token = token_at(text, start);
-    name_in(token, start)
 }

@@ -8,50 +8,34 @@ ghost use Rattle.tuples.specs.Rows.{AreSame, IsListed};
 pub const KEYS: usize = 16384;
 
 // Whether two tuples are the same.
+#[tactic(auto, using(crate::proofs::Chains::same_pointwise))]
 pub fn are_same(a: &[u8], b: &[u8]) -> bool
     ensures { AreSame a.now b.now result }
 {
-    if a.len() != b.len() {
-        return false;
-    }
-    let mut j = 0;
-    while j < a.len() {
-        if a[j] != b[j] {
-            return false;
-        }
-        j += 1;
-    }
-    true
+    a == b
 }
 
 // Whether a tuple is one of those that the cells make, each of as many cells as it has.
-#[tactic(auto, using(crate::proofs::Rows::listed_here, crate::proofs::Rows::listed_on))]
+#[tactic(auto, using(crate::proofs::Rows::none_listed))]
 pub fn is_listed(tuple: &[u8], cells: &[u8]) -> bool
     ensures { IsListed tuple.now cells.now result }
 {
-    let arity = tuple.len();
-    if arity == 0 {
+    if tuple.is_empty() {
         return false;
     }
-    let mut at = 0;
-    while arity <= cells.len() - at {
-        if are_same(tuple, &cells[at..at + arity]) {
-            return true;
-        }
-        at += arity;
-    }
-    false
+    cells
+        .chunks_exact(tuple.len())
+        .any(|other| are_same(tuple, other))
 }
 
 // A key of a tuple: the same tuples have the same key, and few others share it.
+#[tactic(auto, using(crate::proofs::Comparing::key_next, crate::proofs::Comparing::key_last))]
 pub fn key_of(tuple: &[u8]) -> usize
     ensures { KeyOf tuple.now result }
 {
     let mut key: usize = 0;
-    let mut j = 0;
-    while j < tuple.len() {
-        key = (key * 67 + tuple[j] as usize) % KEYS;
-        j += 1;
+    for value in tuple {
+        key = (key * 67 + *value as usize) % KEYS;
     }
     key
 }

@@ -53,7 +53,7 @@ pub fn less(a: u64, b: u64) -> u64
 pub fn lowest(m: u64) -> usize
     ensures { Lowest m result }
 {
-    u64::trailing_zeros(m) as usize
+    m.trailing_zeros() as usize
 }
 
 // The greatest value of m; 64 where m is empty.
@@ -63,7 +63,7 @@ pub fn highest(m: u64) -> usize
     if m == 0 {
         return VALUES;
     }
-    63 - u64::leading_zeros(m) as usize
+    63 - m.leading_zeros() as usize
 }
 
 // m without its least value; the empty set stays empty.
@@ -80,7 +80,7 @@ pub fn without_lowest(m: u64) -> u64
 pub fn count(m: u64) -> usize
     ensures { Counts m result }
 {
-    u64::count_ones(m) as usize
+    m.count_ones() as usize
 }
 
 // The values of m that are v or more.

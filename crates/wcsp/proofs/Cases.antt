@@ -13,8 +13,8 @@ use Rattle.meaning.specs.Calls.{some, same}
 use Rattle.meaning.proofs.Tests.{or_no}
 use Rattle.meaning.proofs.Proper.{some_no}
 use Rattle.text.specs.Bytes.{sort_of, is_blank, is_digit, is_visible}
-use Rattle.text.specs.Words.{front, blanks, run, token_start, token_at}
-use Rattle.text.specs.Tokens.{every, value_from, value_of, is_number, is_name, number_in, name_in, number_at, name_at}
+use Rattle.text.specs.Words.{blanks, run, token_start, token_at}
+use Rattle.text.specs.Tokens.{value_of, is_number, is_name, number_in, name_in, number_at, name_at}
 use Rattle.wcsp.specs.declared.Loaded.{Loaded}
 use Rattle.reading.specs.Reading.{Reading, fault, got, times, number, name, ended}
 use Rattle.wcsp.specs.Files.{File, file, taken}
@@ -147,8 +147,8 @@ wrong : Row → Bool
 wrong row = unlike (told (file row.text)) row.answer
 
 none_wrong : some wrong rows ≡ false
-unfolding rows told unlike wrong first some same taken times number name ended sort_of is_blank is_digit is_visible front blanks run token_start token_at
-    every value_from value_of is_number is_name number_in name_in number_at name_at
+unfolding rows told unlike wrong first some same taken times number name ended sort_of is_blank is_digit is_visible blanks run token_start token_at
+    value_of is_number is_name number_in name_in number_at name_at
 none_wrong = refl
 
 -- ---- its law

@@ -3,12 +3,15 @@ use mathlib.Core.Path.{◌≡◌, refl, sym, ap, ap₂, ◌∙◌}
 use mathlib.Core.Logic.{⊎_elim}
 use mathlib.Core.List.Memᴰ
 use mathlib.Core.List.{List, [], ◌∷◌, ◌++◌, append-nil, append_assoc}
-use Prim.Native.Nat.{ℕ, suc, ◌+◌, ◌*◌, ◌/◌, ◌%◌, ◌≤◌, ◌<◌}
+use Prim.Native.Nat.{ℕ, suc, ◌+◌, ◌-◌, ◌*◌, ◌/◌, ◌%◌, ◌≤◌, ◌<◌}
 use native.Mathlib.Nat.{suc-mul, mul_comm, mul-le-mul_left, mul-div_right, mul-mod_right}
 use native.Mathlib.Numerals.{add-one}
 use native.Mathlib.Omega.{arith}
-use lib.ListN.{length, set, take, drop, length-set, length-append, take-append-drop}
-use lib.Seq.{take-add, take-set-le}
+use borrow.Rule.Slice.PartMut.{put_mid}
+use lib.ListN.{length, take, drop, length-append, length-take, length-drop, take-append-drop}
+use lib.Seq.{paste, take-add, drop_at, length-take-le}
+use Rattle.std.proofs.lemmas.List.{drop-take}
+use Rattle.std.proofs.lemmas.Slice.{put_mid-paste, take-put_mid, take-put_mid_below}
 use Rattle.meaning.specs.Calls.{rows, tuples_of}
 use Rattle.filters.specs.Layout.{joined}
 use Rattle.filters.proofs.Rooms.{Even, length_joined, rows_joined}
@@ -21,14 +24,25 @@ product_most a b v h = omega (arith, mul-le-mul_left v h, mul_comm a v, mul_comm
 pub row_inside : (i n a : ℕ) → i < n → i * a + a ≤ n * a
 row_inside i n a h = omega (arith, product_most (suc i) n a h, suc-mul i a)
 
-pub behind_none : (start : ℕ) (cells : List ℕ) → Behind start cells cells
-behind_none start cells = record { long = refl; kept = refl }
+-- one tuple is written into its part of the cells
+abbrev pub written : ℕ → ℕ → List ℕ → List ℕ → List ℕ
+written start a cells tuple = put_mid start (start + a - start) cells tuple
 
-pub behind_set : {start : ℕ} {before after : List ℕ} (j v : ℕ) → Behind start before after → Behind start before (set after (start + j) v)
-behind_set {start} {before} {after} j v h = record {
-  long = length-set after (start + j) v ∙ h.long;
-  kept = take-set-le start after (start + j) v (omega arith) ∙ h.kept;
-}
+module _ (start a : ℕ) (cells tuple : List ℕ) (fits : start + a ≤ length cells) (long : length tuple ≡ a) where
+  pasted : written start a cells tuple ≡ paste cells start tuple a
+  pasted = put_mid-paste start (start + a - start) cells tuple tuple a refl (omega arith) (omega (arith, long))
+
+  pub part_behind : Behind start cells (written start a cells tuple)
+  part_behind = record {
+    long = ap length pasted ∙ simp (length-append, length-take, length-drop) (omega arith);
+    kept = take-put_mid_below start (start + a - start) cells tuple start (omega arith) (omega arith);
+  }
+
+  pub part_written : take a (drop start (written start a cells tuple)) ≡ tuple
+  part_written =
+      sym (drop-take start a (written start a cells tuple))
+      ∙ ap (drop start) (take-put_mid start (start + a - start) cells tuple (start + a) (omega (arith, long)) (omega arith))
+      ∙ drop_at (take start cells) tuple start (length-take-le start cells (omega arith))
 
 joined_append : (ts us : List (List ℕ)) → joined (ts ++ us) ≡ joined ts ++ joined us
 unfolding joined

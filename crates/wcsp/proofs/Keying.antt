@@ -14,10 +14,7 @@ use Rattle.tuples.specs.Keys.{key_limit, key_from}
 use Rattle.tuples.specs.Rows.{tuples_in}
 use Rattle.tuples.proofs.Rows.{part_is, tuple_long}
 use Rattle.tuples.proofs.Marks.{unmarked, marked_too}
-use Rattle.refusals.specs.declared.Refusal.{Refusal}
-use Rattle.reading.specs.declared.Step.{Step}
-use Rattle.reading.specs.declared.Step.TheVariants.{Fault, Read}
-use Rattle.wcsp.specs.Steps.{Behind, Keyed, KeyedOn}
+use Rattle.wcsp.specs.Steps.{Behind, Keyed}
 
 -- rows lie in the cells before their end
 rows_kept : (n a : ℕ) (l m : List ℕ) → n * a ≤ length l → n * a ≤ length m → take (n * a) l ≡ take (n * a) m → rows n a l ≡ rows n a m
@@ -58,13 +55,6 @@ rows_more (suc n) a l =
 pub keyed_none : (marked : List Bool) (a : ℕ) (cells : List ℕ) → length marked ≡ key_limit → Keyed marked (rows 0 a cells)
 unfolding rows
 keyed_none marked a cells l = record { long = l; marks = λ u m. absurd (Memᴰ.not-nil m) }
-
-abbrev Faulty : Step → Type 0
-Faulty (Fault r at) = at ≡ at
-Faulty (Read v place) = ⊥
-
-pub keyed_faults : {tuples : List (List ℕ)} {marked : List Bool} {step : Step} {r : Refusal} {at : ℕ} → step ≡ Fault r at → KeyedOn tuples marked step
-keyed_faults e = record { on = λ v place q. absurd (subst Faulty (sym e ∙ q) refl) }
 
 pub keyed_behind : {marked : List Bool} (a count : ℕ) (before after : List ℕ) → count * a ≤ length before → Behind (count * a) before after
     → Keyed marked (rows count a before) → Keyed marked (rows count a after)

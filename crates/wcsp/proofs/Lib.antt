@@ -2,7 +2,6 @@
 pub mod Adding
 pub mod Buffers
 pub mod Cases
-pub mod Heading
 pub mod Heaping
 pub mod Keying
 pub mod Sound

@@ -1,9 +1,9 @@
 -- What a file that is read has passed: its first line, its sizes and its tables, by the reading alone. Assumes nothing.
 use mathlib.Core.Path.{◌≡◌, refl, ap, ap₂, ◌∙◌, subst}
-use mathlib.Core.Bool.{false}
+use mathlib.Core.Bool.{Bool, false}
 use mathlib.Core.List.Memᴰ
 use mathlib.Core.List.{List, [], ◌∷◌, ◌++◌}
-use Prim.Native.Nat.{ℕ, ◌+◌, ◌*◌, ◌≤◌, ◌<◌}
+use Prim.Native.Nat.{ℕ, zero, suc, ◌+◌, ◌*◌, ◌≤◌, ◌<◌}
 use native.Mathlib.Omega.{arith}
 use borrow.Author.Tests.{ltb-false, leb-false, lt-leb}
 use lib.Dec.{leb, ltb, eqb}
@@ -23,6 +23,7 @@ use Rattle.reading.proofs.Readings.{what_or, split}
 use Rattle.reading.proofs.Judging.{in_range, tests_passed, judged_got}
 use Rattle.reading.proofs.Keeping.{all_kept, numbers_kept}
 use Rattle.wcsp.specs.Files.{Header, Table, taken, variable_tests, value_tests, count_tests, tuple_tests, header, tuple, table}
+use Rattle.wcsp.specs.Steps.{Known}
 use Rattle.wcsp.proofs.Heaping.{joined_more, even_more}
 
 -- the first line
@@ -64,6 +65,16 @@ scope_sound : (text : List ℕ) (n a at : ℕ) {xs : List ℕ} {p : ℕ} → sev
 unfolding some repeats
 scope_sound text n a at e = numbers_kept text (variable_tests n) a (Variables n)
     (λ before v h (known, once) (below, (new, _)). (some_more (leb n) before v known below, repeats_more eqb eqb_turns before v once new)) at (refl, refl) e
+
+none_of : (p : ℕ → Bool) (l : List ℕ) → some p l ≡ false → (i : ℕ) → i < length l → p (get_or l i 0) ≡ false
+unfolding some
+none_of p [] e i h = absurd (omega arith)
+none_of p (x ∷ l) e zero h = (or_no (p x) (some p l) e).0
+none_of p (x ∷ l) e (suc i) h = none_of p l (or_no (p x) (some p l) e).1 i (omega arith)
+
+-- each is the number of a variable
+pub scope_known : (text : List ℕ) (n a at : ℕ) {xs : List ℕ} {p : ℕ} → several text (variable_tests n) a at ≡ got xs p → Known n xs
+scope_known text n a at {xs} e = λ i h. leb-false n (get_or xs i 0) (none_of (leb n) xs (scope_sound text n a at e).1.0 i h)
 
 module _ (text sizes : List ℕ) (most : some (ltb value_limit) sizes ≡ false) where
   -- a value is below its variable's size, and a size at most 64

@@ -8,8 +8,8 @@ use Rattle.state.specs.Runs.{Run}
 use Rattle.state.proofs.Runs.{run_holds, run_stands}
 use Rattle.refusals.proofs.Unique.{same_refusal, not_accepted}
 use Rattle.state.proofs.Unique.{holds_unique}
-use Rattle.wcsp.specs.declared.Outcome.{Outcome}
-use Rattle.wcsp.specs.declared.Outcome.TheVariants.{Accepted, Refused}
+use Rattle.std.specs.Prelude.{Result, Ok, Err, ⊤}
+use Rattle.reading.specs.declared.Fault.{Fault}
 use Rattle.wcsp.specs.declared.Loaded.{Loaded}
 use Rattle.reading.specs.Reading.{Reading, fault, got}
 use Rattle.wcsp.specs.Files.{File, file}
@@ -20,14 +20,14 @@ pub run_unique : {h : List Call} {s t : State} → Run h s → Run h t → s ≡
 run_unique a b = let (w, l, hold) = run_holds a in holds_unique hold (run_stands w b l)
 
 -- outcomes with the same number and offset are the same
-pub outcome_unique : (a b : Outcome) → said a ≡ said b → a ≡ b
-outcome_unique Accepted Accepted e = refl
-outcome_unique Accepted (Refused q m) e = not_accepted q (sym (ap (λ (p : ℕ × ℕ). p.0) e))
-outcome_unique (Refused r n) Accepted e = not_accepted r (ap (λ (p : ℕ × ℕ). p.0) e)
-outcome_unique (Refused r n) (Refused q m) e =
-    let p = same_refusal r q (ap (λ (p : ℕ × ℕ). p.0) e) in
-    let k : n ≡ m = ap (λ (p : ℕ × ℕ). p.1) e in
-    cc
+pub outcome_unique : (a b : Result ⊤ Fault) → said a ≡ said b → a ≡ b
+outcome_unique (Ok x) (Ok y) e = refl
+outcome_unique (Ok x) (Err g) e = not_accepted g.refusal (sym (ap (λ (p : ℕ × ℕ). p.0) e))
+outcome_unique (Err f) (Ok y) e = not_accepted f.refusal (ap (λ (p : ℕ × ℕ). p.0) e)
+outcome_unique (Err f) (Err g) e =
+    let p = same_refusal f.refusal g.refusal (ap (λ (p : ℕ × ℕ). p.0) e) in
+    let k = ap (λ (p : ℕ × ℕ). p.1) e in
+    λ i. Err (record { refusal = p i; at = k i })
 
 module _ (text : List ℕ) {r s : Loaded} (a : Reads text r) (b : Reads text s) where
   same_read : (reading : Reading File) → file text ≡ reading → (said r.outcome ≡ said s.outcome) × (r.variables ≡ s.variables) × (r.state ≡ s.state)

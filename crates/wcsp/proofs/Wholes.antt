@@ -6,93 +6,82 @@ use Prim.Native.Nat.{ℕ, ◌≤◌}
 use native.Mathlib.Omega.{arith}
 use lib.ListN.{length, take}
 use lib.Seq.{length-take-le}
-use Rattle.refusals.specs.declared.Refusal.{Refusal}
-use Rattle.meaning.specs.Standing.{nothing}
+use Rattle.std.specs.Prelude.{Ok, ⊤}
+use Rattle.meaning.specs.Limits.{variable_limit, value_limit}
 use Rattle.state.specs.declared.State.{State}
-use Rattle.meaning.proofs.Proper.{number_above}
-use Rattle.refusals.specs.Numbers.{table_of}
-use Rattle.state.specs.Holds.{Holds}
 use Rattle.state.specs.Runs.{Run}
 use Rattle.state.proofs.Runs.{run_holds}
-use Rattle.reading.specs.declared.Step.{Step}
-use Rattle.reading.specs.declared.Step.TheVariants.{Fault, Read}
-use Rattle.wcsp.specs.declared.loading.Attempt as Code
-use Rattle.wcsp.specs.declared.Outcome.TheVariants.{Accepted, Refused}
+use Rattle.reading.specs.declared.Read.{Read}
+use Rattle.wcsp.specs.declared.header.Header as Heads
+use Rattle.wcsp.specs.declared.loading.File as Code
 use Rattle.reading.specs.Reading.{several, times, ended}
 use Rattle.wcsp.specs.Files.{Header, File, header, size_tests, table, file, calls, variable_calls, table_calls}
-use Rattle.reading.specs.Steps.{number_of, Comes, ComesTo}
-use Rattle.wcsp.specs.Steps.{Says, Whole}
+use Rattle.reading.specs.Steps.{Comes, ComesTo}
+use Rattle.wcsp.specs.Steps.{Says, Under}
 use Rattle.wcsp.specs.Promises.{Reads}
-use Rattle.reading.proofs.Readings.{fault_of, is_fault, what_or}
+use Rattle.reading.proofs.Readings.{is_fault, what_or}
+use Rattle.wcsp.proofs.Sound.{header_bounds}
 use Rattle.wcsp.proofs.Standing.{file_accepted}
-use Rattle.reading.proofs.Coming.{comes_by, stops, fault_is, went_on, goes_on, last_one}
+use Rattle.reading.proofs.Coming.{Step, comes_by, goes_on, last_one}
 
-abbrev Kept : ℕ → State → File → ℕ → Type 0
-Kept n state f v = (length f.sizes ≡ n) × Run (calls f) state
+abbrev Kept : File → Code.File → Type 0
+Kept f k = (length f.sizes ≡ k.variables) × Run (calls f) k.state
+
+abbrev Loads : List ℕ → Step Code.File → Type 0
+Loads text step = Comes (file text) Kept step
 
 module _ (text : List ℕ) where
-  -- a fault leaves nothing read
-  stopped : (r : Code.Attempt) {step : Step} → r.step ≡ step → Comes (file text) (Kept r.variables r.state) step → Comes (file text) (Kept r.variables r.state) r.step
-  stopped r e came = subst⁻¹ (Comes (file text) (Kept r.variables r.state)) e came
+  module _ {head : Read Heads.Header} (c1 : Comes (header text) Says (Ok head)) where
+    abbrev n : ℕ
+    n = head.what.variables
 
-  module _ {n largest constraints : ℕ} {s1 : Step} (c1 : Comes (header text) (λ h v. Says h n largest constraints) s1) where
-    pub no_header : (r : Code.Attempt) {x : Refusal} {spot : ℕ} → r.step ≡ s1 → s1 ≡ Fault x spot → Comes (file text) (Kept r.variables r.state) r.step
-    no_header r d e = stopped r d (stops c1 _ e)
+    -- the first line is within the limits
+    pub within : (head.what.largest ≤ value_limit) × (n ≤ variable_limit)
+    within = let (h, q, (x, y, z)) = c1.told in let b = header_bounds text q in (omega (arith, b.largest, y), omega (arith, b.variables, x))
 
-    module _ {v1 p1 : ℕ} (e1 : s1 ≡ Read v1 p1) (sizes : List ℕ) {s2 : Step} (c2 : Comes (several text (size_tests largest) n p1) (λ ss v. (ss ≡ take n sizes) × Whole n sizes) s2) where
-      -- the sizes are read as the first line says
-      sizes_came : (h : Header) → Says h n largest constraints → Comes (several text (size_tests h.largest) h.variables p1) (λ ss v. (ss ≡ take n sizes) × Whole n sizes) s2
-      sizes_came h (x, y, z) =
-          subst⁻¹ (λ (k : ℕ). Comes (several text (size_tests k) h.variables p1) (λ ss v. (ss ≡ take n sizes) × Whole n sizes) s2) y
-          (subst⁻¹ (λ (k : ℕ). Comes (several text (size_tests largest) k p1) (λ ss v. (ss ≡ take n sizes) × Whole n sizes) s2) x c2)
+    pub all_inside : (sizes : List ℕ) → length sizes ≡ 32 → n ≤ length sizes
+    all_inside sizes long = omega (arith, long, within.1)
 
-      pub no_sizes : (r : Code.Attempt) {x : Refusal} {spot : ℕ} → r.step ≡ s2 → s2 ≡ Fault x spot → Comes (file text) (Kept r.variables r.state) r.step
-      no_sizes r d e = let (h, q, says) = goes_on c1 _ e1 in stopped r d (comes_by q (stops (sizes_came h says) _ e))
+    abbrev SizesCome : Step (List ℕ) → Type 0
+    SizesCome step = Comes (several text (size_tests head.what.largest) n head.after) (λ ss k. (ss ≡ take n k) × Under 65 k) step
 
-      pub sizes_whole : {v p : ℕ} → s2 ≡ Read v p → Whole n sizes
-      sizes_whole e = let (ss, q, k) = went_on c2 e in k.1
+    -- the sizes are read as the first line says
+    sizes_came : {step : Step (List ℕ)} (h : Header) → Says h head.what → SizesCome step → Comes (several text (size_tests h.largest) h.variables head.after) (λ ss k. (ss ≡ take n k) × Under 65 k) step
+    sizes_came {step} h (x, y, z) c2 =
+        subst⁻¹ (λ (k : ℕ). Comes (several text (size_tests k) h.variables head.after) (λ ss l. (ss ≡ take n l) × Under 65 l) step) y
+        (subst⁻¹ (λ (k : ℕ). Comes (several text (size_tests head.what.largest) k head.after) (λ ss l. (ss ≡ take n l) × Under 65 l) step) x c2)
 
-      module _ {v2 p2 : ℕ} (e2 : s2 ≡ Read v2 p2) (state : State) {s3 : Step}
-          (c3 : Comes (times (table text (take n sizes)) constraints [] p2) (λ ts v. Run (table_calls ts (variable_calls (take n sizes) [])) state) s3) where
-        tables_came : (h : Header) (ss : List ℕ) → Says h n largest constraints → ss ≡ take n sizes
-            → Comes (times (table text ss) h.constraints [] p2) (λ ts v. Run (table_calls ts (variable_calls ss [])) state) s3
-        tables_came h ss (x, y, z) e =
-            subst⁻¹ (λ (k : ℕ). Comes (times (table text ss) k [] p2) (λ ts v. Run (table_calls ts (variable_calls ss [])) state) s3) z
-            (subst⁻¹ (λ (l : List ℕ). Comes (times (table text l) constraints [] p2) (λ ts v. Run (table_calls ts (variable_calls l [])) state) s3) e c3)
+    module _ {sizes : Read (List ℕ)} (c2 : SizesCome (Ok sizes)) where
+      abbrev all : List ℕ
+      all = take n sizes.what
 
-        pub no_tables : (r : Code.Attempt) {x : Refusal} {spot : ℕ} → r.step ≡ s3 → s3 ≡ Fault x spot → Comes (file text) (Kept r.variables r.state) r.step
-        no_tables r d e =
-            let (h, q, says) = goes_on c1 _ e1 in
-            let (ss, q2, k) = goes_on (sizes_came h says) _ e2 in
-            stopped r d (comes_by (q ∙ q2) (stops (tables_came h ss says k.0) _ e))
+      abbrev TablesCome : Step State → Type 0
+      TablesCome step = Comes (times (table text all) head.what.constraints [] sizes.after) (λ ts k. Run (table_calls ts (variable_calls all [])) k) step
 
-        module _ {v3 p3 : ℕ} (e3 : s3 ≡ Read v3 p3) {s4 : Step} (c4 : ComesTo (ended text p3) s4) where
-          pub the_file : n ≤ length sizes → Comes (file text) (Kept n state) s4
-          the_file enough =
-              let (h, q, says) = goes_on c1 _ e1 in
-              let (ss, q2, k) = goes_on (sizes_came h says) _ e2 in
-              let (ts, q3, run) = goes_on (tables_came h ss says k.0) _ e3 in
-              comes_by (q ∙ q2 ∙ q3) (last_one c4 (λ x. record { sizes = ss; tables = ts }) (λ x v m. (ap length k.0 ∙ length-take-le n sizes enough, run)))
+      tables_came : {step : Step State} (h : Header) (ss : List ℕ) → Says h head.what → ss ≡ all → TablesCome step
+          → Comes (times (table text ss) h.constraints [] sizes.after) (λ ts k. Run (table_calls ts (variable_calls ss [])) k) step
+      tables_came {step} h ss (x, y, z) e c3 =
+          subst⁻¹ (λ (k : ℕ). Comes (times (table text ss) k [] sizes.after) (λ ts l. Run (table_calls ts (variable_calls ss [])) l) step) z
+          (subst⁻¹ (λ (l : List ℕ). Comes (times (table text l) head.what.constraints [] sizes.after) (λ ts k. Run (table_calls ts (variable_calls l [])) k) step) e c3)
+
+      module _ {state : Read State} (c3 : TablesCome (Ok state)) where
+        pub the_file : {end : Read ℕ} → ComesTo (ended text state.after) (Ok end) → n ≤ length sizes.what → Loads text (Ok (record { what = record { variables = n; state = state.what }; after = end.after }))
+        the_file c4 enough =
+            let (h, q, says) = goes_on _ c1 in
+            let (ss, q2, k) = goes_on _ (sizes_came h says c2) in
+            let (ts, q3, run) = goes_on _ (tables_came h ss says k.0 c3) in
+            comes_by (q ∙ q2 ∙ q3) (last_one c4 (λ x. record { sizes = ss; tables = ts }) _ (λ x m. (ap length k.0 ∙ length-take-le n sizes.what enough, run)))
 
 -- ---- the outcome
 
-module _ (text : List ℕ) {step : Step} {K : File → ℕ → Type 0} (came : Comes (file text) K step) where
-  pub reads_none : (r : Refusal) (at : ℕ) (state : State) → step ≡ Fault r at → Holds state nothing → Reads text (record { outcome = Refused r at; variables = 0; state = state })
-  reads_none r at state e hold = record {
-    refused = λ number spot q. (ap fault_of (sym (fault_is came e) ∙ q), refl, hold);
-    accepted = λ f place q. absurd (true≢false (ap is_fault (sym (fault_is came e) ∙ q)));
-    only = λ q. let none : number_of r ≡ 0 = ap (λ (x : ℕ × ℕ). x.0) q in absurd (omega (arith, none, number_above (table_of r)));
-  }
-
-pub reads_file : (text : List ℕ) {step : Step} (n : ℕ) (state : State) {v place : ℕ} → Comes (file text) (Kept n state) step → step ≡ Read v place
-    → Reads text (record { outcome = Accepted; variables = n; state = state })
-reads_file text n state came e =
-    let (f, q, kept) = went_on came e in
+pub reads_file : (text : List ℕ) {r : Read Code.File} (v : ⊤) → Loads text (Ok r) → Reads text (record { outcome = Ok v; variables = r.what.variables; state = r.what.state })
+reads_file text {r} v came =
+    let (f, q, kept) = came.told in
     record {
       refused = λ number spot p. absurd (true≢false (ap is_fault (sym p ∙ q)));
       accepted = λ g spot p.
           let same : f ≡ g = ap (what_or f) (sym q ∙ p) in
-          let run = subst (λ (x : File). Run (calls x) state) same kept.1 in
+          let run = subst (λ (x : File). Run (calls x) r.what.state) same kept.1 in
           let (w, l, hold) = run_holds run in
           (refl, sym kept.0 ∙ ap (λ (x : File). length x.sizes) same, file_accepted text p l, run);
       only = λ p. (f, _, q);

@@ -1,13 +1,14 @@
 -- What the reader's code keeps of what it has read.
-use Rattle.std.specs.Prelude.{◌≡◌, Bool, ℕ, ◌+◌, ◌*◌, ◌≤◌, ◌<◌, length, get_or, take, drop}
+use Rattle.std.specs.Prelude.{◌≡◌, Bool, ℕ, ◌+◌, ◌*◌, ◌≤◌, ◌<◌, length, get_or, take, drop, EachIndex, Result, ⊤}
 use mathlib.Core.List.{List, Memᴰ}
-use Rattle.meaning.specs.Limits.{variable_limit, value_limit, rule_limit, room_limit, arity_limit}
+use Rattle.meaning.specs.Limits.{room_limit, arity_limit}
 use Rattle.tuples.specs.Keys.{key_limit, Marked}
 use Rattle.state.specs.Promises.{sort_said}
 use Rattle.filters.specs.Layout.{joined}
-use Rattle.reading.specs.declared.Step.{Step}
-use Rattle.reading.specs.declared.Step.TheVariants.{Read}
+use Rattle.reading.specs.declared.Fault.{Fault}
+use Rattle.reading.specs.declared.Read.{Read}
 use Rattle.reading.specs.Steps.{Comes}
+use Rattle.wcsp.specs.declared.header.Header as Code
 use Rattle.wcsp.specs.declared.tables.Table as Kept
 use Rattle.wcsp.specs.Files.{Header, Table, taken, tuple, table}
 
@@ -15,16 +16,13 @@ use Rattle.wcsp.specs.Files.{Header, Table, taken, tuple, table}
 abbrev pub Under : ℕ → List ℕ → Type 0
 Under k l = (i : ℕ) → get_or l i 0 < k
 
--- the first n numbers of the list are all that it has; the others are 0
-abbrev pub Whole : ℕ → List ℕ → Type 0
-Whole n l = (x : ℕ) → get_or l x 0 ≡ get_or (take n l) x 0
+-- each is the number of one of n variables
+abbrev pub Known : ℕ → List ℕ → Type 0
+Known n scope = EachIndex scope (λ i. get_or scope i 0 < n)
 
--- what the first line says is within the limits
-abbrev pub Bounded : ℕ → ℕ → ℕ → Type 0
-Bounded variables largest constraints = (variables ≤ variable_limit) × (largest ≤ value_limit) × (constraints ≤ rule_limit)
-
-abbrev pub Says : Header → ℕ → ℕ → ℕ → Type 0
-Says h variables largest constraints = (h.variables ≡ variables) × (h.largest ≡ largest) × (h.constraints ≡ constraints)
+-- what the first line says
+abbrev pub Says : Header → Code.Header → Type 0
+Says h k = (h.variables ≡ k.variables) × (h.largest ≡ k.largest) × (h.constraints ≡ k.constraints)
 
 -- cells were written from a start on
 pub record Behind (start : ℕ) (before after : List ℕ) : Type 0 where
@@ -42,14 +40,10 @@ pub record Keyed (marked : List Bool) (tuples : List (List ℕ)) : Type 0 where
   pub long : length marked ≡ key_limit
   pub marks : Marked marked tuples
 
--- the same, where the step goes on
-pub record KeyedOn (tuples : List (List ℕ)) (marked : List Bool) (step : Step) : Type 0 where
-  pub on : (v place : ℕ) → step ≡ Read v place → Keyed marked tuples
-
--- a tuple of a values behind the first `count` in the cells, whatever tuples those are
-pub record NextTuple (text sizes scope : List ℕ) (a default at count : ℕ) (before after : List ℕ) (step : Step) : Type 0 where
-  pub behind : Behind (count * a) before after
-  pub comes : (ts : List (List ℕ)) → Filled a count ts before → Comes (tuple text sizes scope default ts at) (λ t v. t ≡ take a (drop (count * a) after)) step
+-- a tuple of the scope's variables behind the first `count` in the cells, whatever tuples those are
+pub record NextTuple (text sizes scope : List ℕ) (default at count : ℕ) (before after : List ℕ) (step : Result (Read ⊤) Fault) : Type 0 where
+  pub behind : Behind (count * length scope) before after
+  pub comes : (ts : List (List ℕ)) → Filled (length scope) count ts before → Comes (tuple text sizes scope default ts at) (λ t v. t ≡ take (length scope) (drop (count * length scope) after)) step
 
 -- a table as the reader keeps it, where some of the room was used before
 pub record TableKept (used : ℕ) (t : Table) (k : Kept.Table) (cells : List ℕ) : Type 0 where
@@ -62,5 +56,5 @@ pub record TableKept (used : ℕ) (t : Table) (k : Kept.Table) (cells : List ℕ
   pub room : used + (k.arity + k.filled) ≤ room_limit
 
 -- the next table, whatever tables use the room so far
-abbrev pub NextTable : List ℕ → List ℕ → ℕ → ℕ → Kept.Table → List ℕ → Type 0
-NextTable text sizes used at k cells = (ts : List Table) → taken ts ≡ used → Comes (table text sizes ts at) (λ t v. TableKept used t k cells) k.step
+abbrev pub NextTable : List ℕ → List ℕ → ℕ → ℕ → List ℕ → Result (Read Kept.Table) Fault → Type 0
+NextTable text sizes used at cells step = (ts : List Table) → taken ts ≡ used → Comes (table text sizes ts at) (λ t k. TableKept used t k cells) step

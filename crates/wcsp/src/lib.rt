@@ -3,8 +3,7 @@
 
 ghost use Rattle.wcsp.specs.Promises.{Reads};
 
-use reading::Step;
-use refusals::Refusal;
+use reading::Fault;
 use state::State;
 
 mod header;
@@ -16,17 +15,10 @@ mod tables;
 
 use loading::load;
 
-// What a file comes to: accepted, or refused at a byte.
-#[derive(Clone, Copy)]
-pub enum Outcome {
-    Accepted,
-    Refused(Refusal, usize),
-}
-
-// The outcome, how many variables the file has, and the state.
+// What a file comes to, how many variables it has, and the state.
 #[derive(Clone, Copy)]
 pub struct Loaded {
-    pub outcome: Outcome,
+    pub outcome: Result<(), Fault>,
     pub variables: usize,
     pub state: State,
 }
@@ -35,20 +27,16 @@ pub struct Loaded {
 pub fn read(text: &[u8]) -> Loaded
     ensures { Reads text.now result }
 {
-    let attempt = load(text);
-    let step = attempt.step;
-    let variables = attempt.variables;
-    let state = attempt.state;
-    match step {
-        Step::Fault(refusal, at) => Loaded {
-            outcome: Outcome::Refused(refusal, at),
+    match load(text) {
+        Ok(file) => Loaded {
+            outcome: Ok(()),
+            variables: file.what.variables,
+            state: file.what.state,
+        },
+        Err(fault) => Loaded {
+            outcome: Err(fault),
             variables: 0,
             state: setup::new(),
-        },
-        Step::Read(_, _) => Loaded {
-            outcome: Outcome::Accepted,
-            variables,
-            state,
         },
     }
 }

@@ -1,46 +1,43 @@
 // The tuples of a table.
-ghost use Rattle.std.specs.Prelude.{◌≡◌, [], ◌+◌, ◌*◌, ◌≤◌, ◌<◌, length, take, drop};
-ghost use Rattle.meaning.specs.Limits.{variable_limit, room_limit, arity_limit};
+ghost use Rattle.std.specs.Prelude.{◌≡◌, [], ◌+◌, ◌*◌, ◌≤◌, ◌<◌, length, take, drop, IfOk};
+ghost use Rattle.meaning.specs.Limits.{room_limit};
 ghost use Rattle.meaning.specs.Calls.{some, same, rows};
 ghost use Rattle.reading.specs.Reading.{several, times};
 ghost use Rattle.reading.specs.Steps.{Comes};
 ghost use Rattle.wcsp.specs.Files.{value_tests, tuple};
-ghost use Rattle.wcsp.specs.Steps.{Under, Behind, Filled, Keyed, KeyedOn, NextTuple};
+ghost use Rattle.wcsp.specs.Steps.{Known, Filled, Keyed, NextTuple};
 
 use costs::says_same;
-use meaning::{ROOM, VARIABLES};
-use reading::{Step, any_number, number_below};
+use meaning::ROOM;
+use reading::{Fault, Read, Step, any_number, number_below};
 use refusals::Refusal;
 use text::skip_blanks;
 use tuples::{KEYS, is_listed, key_of};
 
-// One tuple, into the cells from a start on: each value below its variable's size.
-fn read_tuple(
-    text: &[u8],
-    at: usize,
-    sizes: [u8; VARIABLES],
-    scope: [u8; 8],
-    arity: usize,
-    cells: &mut [u8; ROOM],
-    start: usize,
-) -> Step
-    requires { Under 65 sizes × Under variable_limit scope × (arity ≤ arity_limit) × (start + arity ≤ room_limit) × (length cells.old ≡ room_limit) }
-    ensures { Behind start cells.old cells.new × Comes (several text.now (value_tests sizes (take arity scope)) arity at) (λ tuple v. tuple ≡ take arity (drop start cells.new)) result }
+// What is known of a table before its tuples: its variables, the sizes of all variables, and the default cost.
+#[derive(Clone, Copy)]
+pub(crate) struct Heading<'a> {
+    pub(crate) sizes: &'a [u8],
+    pub(crate) scope: &'a [u8],
+    pub(crate) default: usize,
+}
+
+// One tuple, into its cells: each value below its variable's size.
+fn read_tuple(text: &[u8], at: usize, heading: Heading, tuple: &mut [u8]) -> Step<()>
+    requires { Known (length heading.sizes.now) heading.scope.now × (length tuple.old ≡ length heading.scope.now) }
+    ensures { Comes (several text.now (value_tests heading.entry.sizes.now heading.entry.scope.now) (length heading.entry.scope.now) at) (λ values v. values ≡ tuple.new) result }
 {
     let mut place = at;
-    let mut j = 0;
-    while j < arity {
-        let x = scope[j] as usize;
-        let size = sizes[x] as usize;
-        let step = number_below(text, place, size, Refusal::OutOfRange);
-        let Step::Read(value, after) = step else {
-            return step;
-        };
-        cells[start + j] = value as u8;
-        place = after;
-        j += 1;
+    for (j, x) in heading.scope.iter().enumerate() {
+        let size = heading.sizes[*x as usize] as usize;
+        let value = number_below(text, place, size, Refusal::OutOfRange)?;
+        tuple[j] = value.what as u8;
+        place = value.after;
     }
-    Step::Read(arity, place)
+    Ok(Read {
+        what: (),
+        after: place,
+    })
 }
 
 // Whether the tuple behind the first `count` is one of them, with marks at their keys; its own key is marked too.
@@ -64,67 +61,52 @@ fn listed_by_key(cells: &[u8], count: usize, arity: usize, marked: &mut [bool; K
 fn next_tuple(
     text: &[u8],
     at: usize,
-    sizes: [u8; VARIABLES],
-    scope: [u8; 8],
-    arity: usize,
-    default: usize,
+    heading: Heading,
     cells: &mut [u8; ROOM],
     count: usize,
     marked: &mut [bool; KEYS],
-) -> Step
-    requires under { Under 65 sizes × Under variable_limit scope × (arity ≤ arity_limit) × (count * arity + arity ≤ room_limit) × (length cells.old ≡ room_limit) × (0 < arity) }
-    requires keyed { Keyed marked.old (rows count arity cells.old) }
-    ensures next_tuple { NextTuple text.now sizes (take arity scope) arity default at count cells.old cells.new result }
-    ensures keyed_on { KeyedOn (rows (count + 1) arity cells.new) marked.new result }
+) -> Step<()>
+    requires known { Known (length heading.sizes.now) heading.scope.now × (0 < length heading.scope.now) }
+    requires room { (count * length heading.scope.now + length heading.scope.now ≤ room_limit) × (length cells.old ≡ room_limit) }
+    requires keyed { Keyed marked.old (rows count (length heading.scope.now) cells.old) }
+    ensures next_tuple { NextTuple text.now heading.entry.sizes.now heading.entry.scope.now heading.entry.default at count cells.old cells.new result }
+    ensures keyed_on { IfOk result (λ _. Keyed marked.new (rows (count + 1) (length heading.entry.scope.now) cells.new)) }
 {
-    let step = read_tuple(text, at, sizes, scope, arity, cells, count * arity);
-    let Step::Read(_, to_cost) = step else {
-        return step;
-    };
-    let cost = any_number(text, to_cost);
-    let Step::Read(said, after) = cost else {
-        return cost;
-    };
-    if says_same(default, said) || listed_by_key(cells, count, arity, marked) {
-        return Step::Fault(Refusal::TupleTwice, skip_blanks(text, at));
+    let arity = heading.scope.len();
+    let last = count * arity;
+    let tuple = read_tuple(text, at, heading, &mut cells[last..last + arity])?;
+    let cost = any_number(text, tuple.after)?;
+    if says_same(heading.default, cost.what) || listed_by_key(cells, count, arity, marked) {
+        return Err(Fault {
+            refusal: Refusal::TupleTwice,
+            at: skip_blanks(text, at),
+        });
     }
-    Step::Read(0, after)
+    Ok(Read {
+        what: (),
+        after: cost.after,
+    })
 }
 
-// The tuples of a table with this scope and default cost, one after the other into the cells.
+// The tuples of a table with this heading, one after the other into the cells.
 pub(crate) fn read_tuples(
     text: &[u8],
     at: usize,
-    sizes: [u8; VARIABLES],
-    scope: [u8; 8],
-    arity: usize,
-    default: usize,
+    heading: Heading,
     count: usize,
     cells: &mut [u8; ROOM],
-) -> Step
-    requires { Under 65 sizes × Under variable_limit scope × (arity ≤ arity_limit) × (count * arity ≤ room_limit) × (length cells.old ≡ room_limit) × (0 < arity) }
-    ensures { (length cells.new ≡ room_limit) × Comes (times (tuple text.now sizes (take arity scope) default) count [] at) (λ ts v. Filled arity count ts cells.new) result }
+) -> Step<()>
+    requires { Known (length heading.sizes.now) heading.scope.now × (count * length heading.scope.now ≤ room_limit) × (length cells.old ≡ room_limit) × (0 < length heading.scope.now) }
+    ensures { (length cells.new ≡ room_limit) × Comes (times (tuple text.now heading.entry.sizes.now heading.entry.scope.now heading.entry.default) count [] at) (λ ts v. Filled (length heading.entry.scope.now) count ts cells.new) result }
 {
     let mut marked = [false; KEYS];
     let mut place = at;
-    let mut i = 0;
-    while i < count {
-        let step = next_tuple(
-            text,
-            place,
-            sizes,
-            scope,
-            arity,
-            default,
-            cells,
-            i,
-            &mut marked,
-        );
-        let Step::Read(_, after) = step else {
-            return step;
-        };
-        place = after;
-        i += 1;
+    for i in 0..count {
+        let tuple = next_tuple(text, place, heading, cells, i, &mut marked)?;
+        place = tuple.after;
     }
-    Step::Read(0, place)
+    Ok(Read {
+        what: (),
+        after: place,
+    })
 }

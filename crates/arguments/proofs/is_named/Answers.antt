@@ -1,24 +1,9 @@
--- `arguments::is_named` meets its contract. The loop: what the rest says is what the whole list says.
-use borrow.Author.Rules.{rules}
-use borrow.Author.Tests.{eq-eqb, ne_eqb}
-use lib.Dec.{eqb}
-use Rattle.meaning.proofs.Searching.{some_steps, found_at, passed_at, missed_at}
+-- `arguments::is_named` meets its contract: the search along the list is the library's.
+use Rattle.std.proofs.Common.{sym, ◌∙◌, rules, tests, eqb}
+use Rattle.std.proofs.lemmas.Iterator.{YieldsList-from_slice}
+use Rattle.std.proofs.lemmas.Iterator.Search.{any_from_yields_List}
+use Rattle.tuples.proofs.Chains.{some_any}
 use Rattle.arguments.proofs.is_named.Goals as goal
 
-pub returns-then-x-variables : goal.returns-then-x-variables
-returns-then-x-variables c =
-    let a = c.args in
-    let l = c.loop-i in
-    found_at (some_steps (eqb a.x)) a.variables.now 0 l.i l.invariant (search rules) (eq-eqb _ _ c.if-x-variables.true)
-
-pub loop-i-preserved : goal.loop-i-preserved
-loop-i-preserved c =
-    let a = c.args in
-    let l = c.loop-i in
-    passed_at (some_steps (eqb a.x)) a.variables.now 0 l.i l.invariant (search rules) (ne_eqb _ _ c.if-x-variables.false)
-
 pub returns : goal.returns
-returns c =
-    let a = c.args in
-    let l = c.loop-i in
-    missed_at (some_steps (eqb a.x)) a.variables.now 0 l.i l.invariant (search rules)
+returns c = any_from_yields_List (eqb c.args.x) _ _ _ c.any.ensures.ran (YieldsList-from_slice c.args.variables.now (cc)) (λ x b q k. search (rules, tests)) ∙ sym (some_any _ _)

@@ -2,8 +2,5 @@
 use Rattle.arguments.proofs.Keys.{Passed}
 use Rattle.arguments.proofs.tuple_twice.Given as goal
 
-abbrev pub invariant-loop-place : goal.invariant-loop-place
-invariant-loop-place l = Passed l.arity l.cells l.place l.marked
-
-abbrev pub decreases-loop-place : goal.decreases-loop-place
-decreases-loop-place l = l.place
+abbrev pub invariant-loop-i : goal.invariant-loop-i
+invariant-loop-i l = Passed l.arity l.cells l.i l.marked

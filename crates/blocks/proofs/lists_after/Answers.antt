@@ -1,6 +1,7 @@
--- `blocks::lists_after` meets its contract. The loop: the first x lists are read.
-use Rattle.blocks.proofs.Reading.{read_all}
+-- `blocks::lists_after` meets its contract.
+use native.Mathlib.Omega.{arith}
+use Rattle.blocks.proofs.Reading.{none_read}
 use Rattle.blocks.proofs.lists_after.Goals as goal
 
-pub returns : goal.returns
-returns c = let a = c.args in read_all a.lists.now a.k c.loop-x.out c.loop-x.x c.loop-x.invariant c.loop-x-test.false
+pub returns-else-k-le-DECISIONS : goal.returns-else-k-le-DECISIONS
+returns-else-k-le-DECISIONS c = none_read c.args.lists.now c.args.k (omega arith)

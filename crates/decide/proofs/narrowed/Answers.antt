@@ -6,8 +6,14 @@ use native.Mathlib.Omega.{arith}
 use Rattle.blocks.proofs.Reading.{copied_is}
 use Rattle.blocks.proofs.Writing.{with_block_lem}
 use Rattle.state.proofs.Holding.{sizes}
+use Rattle.state.proofs.Reading.{reached_rules}
 use Rattle.decide.proofs.Decisions.{narrows_by, nothing_removed}
 use Rattle.decide.proofs.narrowed.Goals as goal
+
+pub settled-left-requires : goal.settled-left-requires
+settled-left-requires c =
+    let held = c.rules_held-rules.ensures in
+    rw (held.0, held.1) (reached_rules c.requires.reached)
 
 pub returns : goal.returns
 returns c =
@@ -16,5 +22,6 @@ returns c =
     let z = sizes c.requires.reached in
     let eb = copied_is z.lists z.depth copied.ensures in
     let put = c.put_lists.ensures ∙ with_block_lem s.lists (s.depth + 1) c.if-found-kept.left (omega arith) in
+    let held = c.rules_held-rules.ensures in
     let narrows = narrows_by s c.args.x c.args.kept copied.result c.if-found-kept.left c.put_lists.new.lists c.requires.x_lt_variables.0 c.requires.x_lt_variables.1 eb put in
-    ⊎_elim (λ p. narrows (rw p.left-is p.settled-left.ensures)) (λ p. narrows (rw p.left-is (nothing_removed c.requires.reached c.args.x c.args.kept eb p.if-found-kept.false))) c.if-found-kept.branch-raw
+    ⊎_elim (λ p. narrows (rw p.left-is (rw (held.0, held.1) at p.settled-left.ensures))) (λ p. narrows (rw p.left-is (nothing_removed c.requires.reached c.args.x c.args.kept eb p.if-found-kept.false))) c.if-found-kept.branch-raw

@@ -1,6 +1,6 @@
 -- `lines::put_number` meets its contract: a number's digits are those of its tenth, and its last one.
 use Rattle.std.proofs.Common.{ap, sym, arith, length}
-use Rattle.lines.proofs.Digits.{decimal_below, decimal_from, decimal_longer}
+use Rattle.lines.proofs.Digits.{decimal_below, decimal_from, decimal_fewer, decimal_longer}
 use Rattle.lines.proofs.Putting.{put_both, put_as}
 use Rattle.lines.proofs.+put_number.Goals as goal
 
@@ -8,7 +8,7 @@ pub put_byte-requires : goal.put_byte-requires
 put_byte-requires t c = omega (arith, ap length (decimal_below c.args.n (omega arith)))
 
 pub put_number-end-requires : goal.put_number-end-requires
-put_number-end-requires t c = (omega arith, omega (arith, decimal_longer c.args.n c.ranges.n.fits (omega arith)))
+put_number-end-requires t c = (omega arith, omega (arith, decimal_fewer c.args.n))
 
 pub put_byte-requires-2 : goal.put_byte-requires-2
 put_byte-requires-2 t c =

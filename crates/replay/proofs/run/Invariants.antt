@@ -1,11 +1,6 @@
--- `replay::run` meets its contract.
-use Prim.Native.Nat.{◌-◌}
-use lib.ListN.{length}
-use Rattle.state.specs.Holds.{Reached}
+-- The bytes of the lines that are still to come stand behind `at`.
+use Rattle.std.proofs.Common.{◌≡◌, ◌+◌, length}
 use Rattle.replay.proofs.run.Given as goal
 
-abbrev pub invariant-loop-from : goal.invariant-loop-from
-invariant-loop-from g l = Reached l.desk.state
-
-abbrev pub decreases-loop-from : goal.decreases-loop-from
-decreases-loop-from g l = length l.script - l.from
+abbrev pub invariant-loop-line : goal.invariant-loop-line
+invariant-loop-line l = l.at + length l.line-iterator.rest.now ≡ length l.script

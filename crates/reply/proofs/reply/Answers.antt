@@ -3,17 +3,10 @@ use Rattle.reply.proofs.Replying.{refused_replies, may_solve, accepted_replies}
 use Rattle.reply.proofs.reply.Goals as goal
 
 pub write_solved-requires : goal.write_solved-requires
-write_solved-requires c =
-    let reads = c.read-loaded.ensures in
-    may_solve _ _ reads c.in-Accepted.is
+write_solved-requires c = may_solve _ _ c.read-loaded.ensures c.in-Ok.is
 
-pub returns-in-Refused : goal.returns-in-Refused
-returns-in-Refused c =
-    let reads = c.read-loaded.ensures in
-    let refused = c.in-Refused.is in
-    refused_replies _ _ reads refused c.number_of.ensures c.write_refused.ensures
+pub returns-in-Ok : goal.returns-in-Ok
+returns-in-Ok c = accepted_replies _ _ c.read-loaded.ensures c.in-Ok.is c.write_solved.ensures
 
-pub returns-in-Accepted : goal.returns-in-Accepted
-returns-in-Accepted c =
-    let reads = c.read-loaded.ensures in
-    accepted_replies _ _ reads c.in-Accepted.is c.write_solved.ensures
+pub returns-in-Err : goal.returns-in-Err
+returns-in-Err c = refused_replies _ _ c.read-loaded.ensures c.in-Err.is c.from.ensures c.write_refused.ensures

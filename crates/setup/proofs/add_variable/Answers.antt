@@ -18,9 +18,9 @@ pub returns : goal.returns
 returns c =
     let s = c.args.s in
     let m = c.args.marks in
-    accepts s (add_variable m) (with_variable s m) λ k w L l h most.
+    rw (c.accepted.ensures.0, c.accepted.ensures.1) (accepts s (add_variable m) (with_variable s m) λ k w L l h most.
     let none : length w.decisions ≡ 0 = omega (arith, h.depth) in
     let few : length w.declared < variable_limit = omega (arith, h.variables) in (
       finds (tests w L (add_variable m)) 0 (inr (le-ltb 0 (length w.decisions) (omega arith), inr (lt-leb variable_limit (length w.declared) few, refl))),
       variable_held s w m (leaves_proper l) h (none_of w.decisions none) few,
-    )
+    ))

@@ -1,16 +1,13 @@
--- `tuples::is_listed` meets its contract. The loop: what the rest says is what the whole list says.
-use native.Mathlib.Omega.{arith}
-use borrow.Author.Rules.{rules}
-use lib.ListN.{length}
-use Rattle.meaning.proofs.Searching.{missed}
-use Rattle.tuples.proofs.Rows.{again_search, none_listed}
+-- `tuples::is_listed` meets its contract: the pieces that it looks through are the tuples that the cells make.
+use Rattle.std.proofs.Common.{sym, ◌∙◌, rules, tests, arith}
+use Rattle.std.proofs.lemmas.Bool.Decides.{nat_tests}
+use Rattle.std.proofs.lemmas.Iterator.Search.{any_from_yields_List}
+use Rattle.meaning.specs.Calls.{same}
+use Rattle.tuples.proofs.Chains.{some_any, chunks_are}
 use Rattle.tuples.proofs.is_listed.Goals as goal
-
-pub returns-then-arity-eq0 : goal.returns-then-arity-eq0
-returns-then-arity-eq0 c = let a = c.args in none_listed a.tuple.now a.cells.now c.if-arity-eq0.true
 
 pub returns : goal.returns
 returns c =
     let a = c.args in
-    let l = c.loop-at in
-    missed (again_search (length a.tuple.now) (omega (arith, c.if-arity-eq0.false)) a.tuple.now) a.cells.now l.at l.invariant.1 (search rules)
+    let pieces = chunks_are _ a.cells.now (grind (arith, nat_tests)) c.chunks_exact.ensures.size c.chunks_exact.ensures.rest in
+    any_from_yields_List (same a.tuple.now) _ _ _ c.any.ensures.ran pieces (λ x b q k. search (rules, tests)) ∙ sym (some_any _ _)

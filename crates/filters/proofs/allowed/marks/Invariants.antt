@@ -1,14 +1,9 @@
 -- `filters::allowed::marks` meets its contract.
-use Prim.Native.Nat.{◌+◌, ◌-◌, ◌*◌, ◌≤◌}
 use mathlib.Core.Path.{◌≡◌}
-use lib.ListN.{length}
-use Rattle.filters.specs.Tables.{Marked}
-use Rattle.filters.proofs.Passes.{passed}
+use lib.ListN.{length, take}
+use Rattle.filters.specs.Tables.{pieces, Marked}
 use Rattle.filters.proofs.allowed.marks.Given as goal
 
-abbrev pub invariant-loop-k : goal.invariant-loop-k
-invariant-loop-k l =
-    (l.k ≤ l.tuples) × (l.at ≡ l.first + l.arity * l.k) × ((length l.marked ≡ 8) × Marked l.masks l.arity (passed l.room l.first l.arity l.tuples l.k) l.marked)
-
-abbrev pub decreases-loop-k : goal.decreases-loop-k
-decreases-loop-k l = l.tuples - l.k
+abbrev pub invariant-loop-tuple : goal.invariant-loop-tuple
+invariant-loop-tuple l =
+    (length l.marked ≡ 8) × Marked l.masks (length l.masks) (take (length l.yielded) (pieces (length l.masks) l.cells)) l.marked

@@ -1,50 +1,54 @@
 -- `filters::forbidden::filter` meets its contract.
-use Prim.Native.Nat.{◌+◌}
+use mathlib.Core.Path.{◌≡◌, sym, ◌∙◌}
+use Prim.Native.Nat.{◌/◌}
 use native.Mathlib.Omega.{arith}
-use lib.ListN.{drop}
-use Rattle.filters.proofs.Supporting.{forbidden_nothing, forbidden_filtering}
-use Rattle.filters.proofs.Cells.{scope_long, scope_cells, tuple_cells, tuples_few}
-use Rattle.filters.specs.Layout.{scope_at, tuples_at}
+use lib.ListN.{length, take}
+use lib.Seq.{length-take-le}
+use Rattle.meaning.specs.Calls.{tuples_of}
+use Rattle.meaning.proofs.Listed.{product_but}
 use Rattle.meaning.proofs.Proper.{rows_count}
+use Rattle.filters.specs.Tables.{places}
+use Rattle.filters.proofs.Cells.{all_below, proper_tuples}
+use Rattle.filters.proofs.Sifting.{ready_known}
+use Rattle.filters.proofs.Places.{gathered_front}
+use Rattle.filters.proofs.Supporting.{all_above, forbidden_nothing, forbidden_filtering}
 use Rattle.filters.proofs.forbidden.filter.Goals as goal
 
-pub gather-masks-requires : goal.gather-masks-requires
-gather-masks-requires c = let a = c.args in
-    let ready = c.requires.ready in
-    (scope_cells a.room.now a.start a.arity a.tuples ready.fits ready.proper.parts ready.proper.known, ready.lists)
+pub gather-gathered-requires : goal.gather-gathered-requires
+gather-gathered-requires c =
+    let ready = c.requires.0 in
+    (ready.proper.parts.few, all_below c.args.scope.now ready.proper.known, ready.lists)
 
 pub returns-then-too_few : goal.returns-then-too_few
-returns-then-too_few c = let a = c.args in
-    let ready = c.requires.ready in
-    let room = a.room.now in
-    forbidden_nothing a.lists.now (scope_at room a.start a.arity) c.gather-masks.result a.arity
-    (scope_long room a.start a.arity a.tuples ready.fits) c.gather-masks.ensures ready.proper.once
-    (tuples_at room a.start a.arity a.tuples) (λ x. omega (arith, c.slice_known-1.given x)) ready.proper.parts.once
-    c.ways_of-ways.result c.ways_of-ways.ensures
-    (rw (rows_count a.tuples a.arity (drop (a.start + a.arity) room)) (c.too_few.ensures c.if-too_few.true))
+returns-then-too_few c =
+    let s = c.args.scope.now in
+    let lists = c.args.lists.now in
+    let proper = c.requires.0.proper in
+    let masks = take (length s) c.gather-gathered.result in
+    let e : length masks ≡ length s = length-take-le (length s) c.gather-gathered.result (omega (arith, proper.parts.few)) in
+    let few = rw e at (sym c.too_few.ensures ∙ c.if-too_few.true) in
+    forbidden_nothing lists s masks (gathered_front lists s c.gather-gathered.result c.gather-gathered.ensures) proper.once (tuples_of s c.args.cells.now)
+    (λ x. omega (arith, c.slice_known-1.given x)) proper.parts.once
+    (rw (rows_count (length c.args.cells.now / length s) (length s) c.args.cells.now) (all_above (length c.args.cells.now / length s) (length s) (product_but masks (places (length s))) few))
 
 pub left_of-left-requires : goal.left_of-left-requires
-left_of-left-requires c = let a = c.args in
-    let ready = c.requires.ready in
-    let few = tuples_few a.room.now a.start a.arity a.tuples ready.fits ready.proper.some in
-    let cells = tuple_cells a.room.now a.start a.arity a.tuples ready.fits ready.proper.parts in
-    (cells, omega (arith, few, c.requires.room_len_bound), (scope_cells a.room.now a.start a.arity a.tuples ready.fits ready.proper.parts ready.proper.known).few)
+left_of-left-requires c =
+    let s = c.args.scope.now in
+    let proper = c.requires.0.proper in
+    let e : length (take (length s) c.gather-gathered.result) ≡ length s = length-take-le (length s) c.gather-gathered.result (omega (arith, proper.parts.few)) in
+    (rw e (proper_tuples proper.some proper.parts), c.requires.1)
 
 pub keep_each-requires : goal.keep_each-requires
-keep_each-requires c = let a = c.args in
-    let ready = c.requires.ready in
-    (scope_cells a.room.now a.start a.arity a.tuples ready.fits ready.proper.parts ready.proper.known, ready.proper.once, ready.lists)
+keep_each-requires c = (ready_known c.requires.0, omega (arith, c.requires.0.proper.parts.few))
 
 pub returns : goal.returns
-returns c = let a = c.args in
-    let ready = c.requires.ready in
-    let room = a.room.now in
-    let gathered = c.gather-masks in
-    let ways = c.ways_of-ways in
+returns c =
+    let s = c.args.scope.now in
+    let lists = c.args.lists.now in
+    let proper = c.requires.0.proper in
+    let masks = take (length s) c.gather-gathered.result in
     let left = c.left_of-left in
-    let kept = c.keep_each in
-    forbidden_filtering a.lists.now (scope_at room a.start a.arity) gathered.result a.arity
-    (scope_long room a.start a.arity a.tuples ready.fits) gathered.ensures ready.proper.once
-    (tuples_at room a.start a.arity a.tuples) (λ x. omega (arith, c.slice_known-1.given x)) ready.proper.parts.once
-    ways.result ways.ensures left.ensures.counts left.result
-    kept.new.lists kept.result left.ensures.counted left.ensures.fewer kept.ensures
+    let e : length masks ≡ length s = length-take-le (length s) c.gather-gathered.result (omega (arith, proper.parts.few)) in
+    forbidden_filtering lists s masks (gathered_front lists s c.gather-gathered.result c.gather-gathered.ensures) proper.once (tuples_of s c.args.cells.now)
+    (λ x. omega (arith, c.slice_known-1.given x)) proper.parts.once
+    left.ensures.counts left.result c.keep_each.new.lists c.keep_each.result (rw e at left.ensures.counted) (rw e at left.ensures.fewer) c.keep_each.ensures

@@ -1,11 +1,8 @@
 -- `filters::tables::keep_each` meets its contract.
-use Prim.Native.Nat.{◌-◌, ◌≤◌}
-use Rattle.filters.specs.Layout.{scope_at}
-use Rattle.filters.specs.Tables.{Narrowed}
+use lib.ListN.{get_or}
+use Rattle.meaning.specs.Values.{Has}
+use Rattle.filters.specs.Sifting.{Sifted}
 use Rattle.filters.proofs.tables.keep_each.Given as goal
 
 abbrev pub invariant-loop-j : goal.invariant-loop-j
-invariant-loop-j l = (l.j ≤ l.arity) × Narrowed l.initial.lists (scope_at l.room l.start l.arity) l.j l.masks l.lists l.changed
-
-abbrev pub decreases-loop-j : goal.decreases-loop-j
-decreases-loop-j l = l.arity - l.j
+invariant-loop-j l = Sifted l.scope l.j (λ j v. Has (get_or l.masks j 0) v) l.initial.lists l.lists l.changed

@@ -1,9 +1,7 @@
--- `replay::deciding::ban` meets its contract.
+-- The ban is one call more.
 use Rattle.meaning.specs.Calls.{ban}
 use Rattle.state.proofs.Runs.{reached_after}
 use Rattle.replay.proofs.deciding.ban.Goals as goal
 
-pub with_state-requires : goal.with_state-requires
-with_state-requires g c =
-    let pair = c.last_pair-pair.result in
-    reached_after (ban pair.variable pair.value) c.requires.0 c.ban-after.ensures
+pub invariant_of-desk : goal.invariant_of-desk
+invariant_of-desk c = (reached_after (ban _ _) c.desk.invariant.0 c.ban.ensures, c.desk.invariant.1)

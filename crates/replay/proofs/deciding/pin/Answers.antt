@@ -1,9 +1,7 @@
--- `replay::deciding::pin` meets its contract.
+-- The pin is one call more.
 use Rattle.meaning.specs.Calls.{pin}
 use Rattle.state.proofs.Runs.{reached_after}
 use Rattle.replay.proofs.deciding.pin.Goals as goal
 
-pub with_state-requires : goal.with_state-requires
-with_state-requires g c =
-    let pair = c.last_pair-pair.result in
-    reached_after (pin pair.variable pair.value) c.requires.0 c.pin-after.ensures
+pub invariant_of-desk : goal.invariant_of-desk
+invariant_of-desk c = (reached_after (pin _ _) c.desk.invariant.0 c.pin.ensures, c.desk.invariant.1)

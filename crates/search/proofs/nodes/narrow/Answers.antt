@@ -1,56 +1,32 @@
 -- `search::nodes::narrow` meets its contract: what is left so far, and the rules that are due.
-use borrow.Author.Tests.{not-true, not-false}
-use Rattle.search.proofs.Sieving.{sieved_dry, spread_on, sieving_aims, sieving_open, sieved_dead, sieved_live, sieving_on, sieving_less}
+use Rattle.search.proofs.Sieving.{sieved_dry, sieving_aims, sieving_open, sieved_dead, sieved_live, raised_full, sieving_on, sieving_less}
 use Rattle.search.proofs.nodes.narrow.Goals as goal
 
-pub returns-then-not-spread : goal.returns-then-not-spread
-returns-then-not-spread c =
-    let net = c.requires.net in
-    let at = c.loop-rules in
-    let spread = c.spread.ensures in
-    sieved_dry net at.invariant spread (c.if-not-spread.true)
+pub returns-in_err-spread : goal.returns-in_err-spread
+returns-in_err-spread c = rw c.from_residual.ensures (sieved_dry c.requires.net c.loop-lists.invariant c.in_err-spread.ensures)
 
-pub raise-verdict-requires : goal.raise-verdict-requires
-raise-verdict-requires c =
+pub raise-requires : goal.raise-requires
+raise-requires c =
     let net = c.requires.net in
-    let at = c.loop-rules in
-    let spread = c.spread.ensures in
-    let quiet = spread_on net at.invariant spread (c.if-not-spread.false) in
-    (sieving_aims net quiet, sieving_open net quiet, c.requires.floors_len.0)
+    (sieving_aims net c.loop-lists.invariant c.in_ok-spread.ensures, sieving_open net c.loop-lists.invariant c.in_ok-spread.ensures)
 
-pub returns-then-not-verdict : goal.returns-then-not-verdict
-returns-then-not-verdict c =
-    let net = c.requires.net in
-    let at = c.loop-rules in
-    let spread = c.spread.ensures in
-    let quiet = spread_on net at.invariant spread (c.if-not-spread.false) in
-    let raise = c.raise-verdict.ensures in
-    sieved_dead net quiet raise (not-true _ c.if-not-verdict.true)
+pub returns-in_err-changed : goal.returns-in_err-changed
+returns-in_err-changed c =
+    rw c.from_residual-in_err-changed.ensures
+    (sieved_dead c.requires.net c.loop-lists.invariant c.in_ok-spread.ensures c.raise.ensures c.in_err-changed.ensures.answer)
 
-pub returns-then-verdict-eq0 : goal.returns-then-verdict-eq0
-returns-then-verdict-eq0 c =
-    let net = c.requires.net in
-    let at = c.loop-rules in
-    let spread = c.spread.ensures in
-    let quiet = spread_on net at.invariant spread (c.if-not-spread.false) in
-    let raise = c.raise-verdict.ensures in
-    sieved_live net quiet raise (not-false _ c.if-not-verdict.false) c.if-verdict-eq0.true
+pub returns-then-changed-eq0 : goal.returns-then-changed-eq0
+returns-then-changed-eq0 c =
+    sieved_live c.requires.net c.loop-lists.invariant c.in_ok-spread.ensures c.raise.ensures c.in_ok-changed.ensures.answer c.if-changed-eq0.true
 
-pub loop-rules-smaller : goal.loop-rules-smaller
-loop-rules-smaller c =
-    let net = c.requires.net in
-    let at = c.loop-rules in
-    let spread = c.spread.ensures in
-    let quiet = spread_on net at.invariant spread (c.if-not-spread.false) in
-    let raise = c.raise-verdict.ensures in
-    let words = c.slice_known-1.given in
-    sieving_less net quiet raise at.lists (spread.done (c.if-not-spread.false)).within (λ x. (words x).fits) c.if-verdict-eq0.false
+pub returns-in_err-rest : goal.returns-in_err-rest
+returns-in_err-rest c =
+    absurd (raised_full c.requires.net c.loop-lists.invariant c.in_ok-spread.ensures c.raise.ensures c.in_ok-changed.ensures.answer c.in_err-rest.ensures)
 
-pub loop-rules-preserved : goal.loop-rules-preserved
-loop-rules-preserved c =
-    let net = c.requires.net in
-    let at = c.loop-rules in
-    let spread = c.spread.ensures in
-    let quiet = spread_on net at.invariant spread (c.if-not-spread.false) in
-    let raise = c.raise-verdict.ensures in
-    sieving_on net quiet raise c.affected_by-rest.result c.affected_by-rest.ensures
+pub loop-lists-smaller : goal.loop-lists-smaller
+loop-lists-smaller c =
+    sieving_less c.requires.net c.loop-lists.invariant c.in_ok-spread.ensures c.raise.ensures c.in_ok-changed.ensures.answer c.if-changed-eq0.false
+
+pub loop-lists-preserved : goal.loop-lists-preserved
+loop-lists-preserved c =
+    sieving_on c.requires.net c.loop-lists.invariant c.in_ok-spread.ensures c.raise.ensures c.in_ok-changed.ensures.answer c.in_ok-rest.ensures

@@ -8,11 +8,10 @@ use Rattle.state.proofs.adding.followed.Goals.{then-filter_rule-ne0, else-filter
 pub returns : goal.returns
 returns c =
     let s = c.args.s in
-    let ready = c.requires in
+    let rules = c.rules_held-rules in
     let copied = c.lists_after-left in
     let filtered = c.filter_rule in
-    let eb = copied_is ready.lists (omega arith) copied.ensures in
-    let by = filtered.ensures.by ready.known copied.ensures.long in
-    let here = stays s c.args.k ready copied.result filtered.new.lists c.put_lists.new.lists filtered.result eb by in
-    let more = goes_on s c.args.k ready copied.result filtered.new.lists c.put_lists.new.lists filtered.result eb by in
+    let eb = copied_is c.requires.lists (omega arith) copied.ensures in
+    let here = stays s c.args.k c.requires rules.result.heads.now rules.result.room.now rules.ensures copied.result filtered.new.lists c.put_lists.new.lists filtered.result eb filtered.ensures in
+    let more = goes_on s c.args.k c.requires rules.result.heads.now rules.result.room.now rules.ensures copied.result filtered.new.lists c.put_lists.new.lists filtered.result eb filtered.ensures in
     elim c.if-filter_rule-ne0.branch [ then-filter_rule-ne0 w ↦ search (here, more) | else-filter_rule-ne0 w ↦ search (here, more) ]

@@ -1,42 +1,30 @@
--- `wcsp::scopes::read_scope` meets its contract. The loop: so many variables are named.
-use mathlib.Core.Path.{ap}
-use Prim.Native.Nat.{ℕ}
-use mathlib.Core.Path.{◌≡◌, ◌∙◌}
-use Prim.Native.Nat.{◌<◌}
-use borrow.Author.Rules.{rules}
-use native.Mathlib.Omega.{arith}
-use lib.ListN.{take, length-set}
-use Rattle.reading.proofs.Coming.{number_is}
-use Rattle.reading.proofs.Several.{next_number, fault_there, all_read, put_next}
-use Rattle.wcsp.proofs.Buffers.{under_set}
+-- `wcsp::scopes::read_scope` meets its contract. The loop: i variables are named.
+use Rattle.std.proofs.Common.{◌≡◌, ℕ, ◌<◌, arith, rules, take, ap, ◌∙◌, length-set}
+use Rattle.std.proofs.lemmas.Result.{err_from_is_err_and}
 use borrow.Author.Tests.{leb-false}
+use Rattle.reading.proofs.Coming.{number_is}
 use Rattle.reading.proofs.Judging.{tests_passed}
+use Rattle.reading.proofs.Several.{next_number, fault_there, all_read, put_next}
 use Rattle.wcsp.proofs.scopes.read_scope.Goals as goal
 
-pub returns-in_default : goal.returns-in_default
-returns-in_default c =
-    let a = c.args in
-    let l = c.loop-named in
-    (l.invariant.1, l.invariant.0, fault_there _ l.invariant.2 c.loop-named-test.true c.next_variable-step.ensures c.in_default.is)
+pub returns-in_err-x : goal.returns-in_err-x
+returns-in_err-x c =
+    let p = err_from_is_err_and c.from_residual.result c.from_residual.ensures.1 in
+    rw (p.1, p.2) (fault_there _ c.loop-i.invariant.1 c.loop-i-test.true c.in_err-x.ensures)
 
 pub overflow_cast-variables : goal.overflow_cast-variables
 overflow_cast-variables c =
-    let a = c.args in
-    let l = c.loop-named in
-    let small : c.in-Read.x < a.n = leb-false _ _ (tests_passed _ _ _ (number_is c.next_variable-step.ensures c.in-Read.is)).0 in
+    let small : c.in_ok-x.x.what < c.args.n = leb-false _ _ (tests_passed _ _ _ (number_is c.in_ok-x.ensures)).0 in
     omega (arith, small)
 
-pub loop-named-preserved : goal.loop-named-preserved
-loop-named-preserved c =
-    let a = c.args in
-    let l = c.loop-named in
-    let v = c.in-Read.x in
-    let small : c.in-Read.x < a.n = leb-false _ _ (tests_passed _ _ _ (number_is c.next_variable-step.ensures c.in-Read.is)).0 in
-    (length-set l.variables l.named v ∙ l.invariant.0, under_set l.variables l.named v l.invariant.1 (omega (arith, small)) (search rules), next_number _ _ l.invariant.2 c.loop-named-test.true c.next_variable-step.ensures _ c.in-Read.is (put_next l.variables l.named v (search rules)))
+pub loop-i-preserved : goal.loop-i-preserved
+loop-i-preserved c =
+    let l = c.loop-i in
+    let v = c.in_ok-x.x.what in
+    (length-set l.variables l.i v ∙ l.invariant.0, next_number _ _ l.invariant.1 c.loop-i-test.true _ c.in_ok-x.ensures (put_next l.variables l.i v (search rules)))
 
 pub returns : goal.returns
 returns c =
-    let a = c.args in
-    let l = c.loop-named in
-    let all : l.named ≡ a.arity = omega (arith, l.invariant.2.few, c.loop-named-test.false) in
-    (l.invariant.1, l.invariant.0, all_read _ l.invariant.2 _ c.loop-named-test.false (ap (λ (k : ℕ). take k l.variables) all))
+    let l = c.loop-i in
+    let all : l.i ≡ c.args.arity = omega (arith, l.invariant.1.few, c.loop-i-test.false) in
+    all_read _ l.invariant.1 _ c.loop-i-test.false (ap (λ (k : ℕ). take k l.variables) all)

@@ -1,14 +1,8 @@
--- `wcsp::scopes::read_scope` meets its contract. The loop: so many variables are named.
-use mathlib.Core.Path.{◌≡◌}
-use Prim.Native.Nat.{◌-◌}
-use lib.ListN.{length, take}
-use Rattle.wcsp.specs.Steps.{Under}
+-- `wcsp::scopes::read_scope` meets its contract. The loop: i variables are named.
+use Rattle.std.proofs.Common.{◌≡◌, length, take}
 use Rattle.reading.proofs.Several.{NumbersSoFar}
 use Rattle.wcsp.specs.Files.{variable_tests}
 use Rattle.wcsp.proofs.scopes.read_scope.Given as goal
 
-abbrev pub invariant-loop-named : goal.invariant-loop-named
-invariant-loop-named l = (length l.variables ≡ 8) × Under 32 l.variables × NumbersSoFar l.text (variable_tests l.n) l.arity l.at l.named l.place (take l.named l.variables)
-
-abbrev pub decreases-loop-named : goal.decreases-loop-named
-decreases-loop-named l = l.arity - l.named
+abbrev pub invariant-loop-i : goal.invariant-loop-i
+invariant-loop-i l = (length l.variables ≡ 8) × NumbersSoFar l.text (variable_tests l.n) l.arity l.at l.i l.place (take l.i l.variables)

@@ -1,38 +1,39 @@
 -- `wcsp::tables::read_table` meets its contract. Each part goes on from the one before it.
-use mathlib.Core.Path.{◌≡◌}
-use native.Mathlib.Omega.{arith}
-use lib.ListN.{length}
-use Rattle.reading.proofs.Coming.{number_is}
-use Rattle.reading.proofs.Judging.{in_range, tests_passed}
-use Rattle.wcsp.proofs.Tabling.{the_table, room_holds}
-use mir.Syntax.{w8}
-use Rattle.blocks.proofs.Arrays.{array_length}
+use Rattle.std.proofs.Common.{◌≡◌, arith, rules, sym, length, take}
+use lib.Seq.{length-take-le}
+use Rattle.wcsp.proofs.Tabling.{arity_bounds, arity_inside, known, fits, the_table}
 use Rattle.wcsp.proofs.tables.read_table.Goals as goal
 
-pub read_scope-scope-requires : goal.read_scope-scope-requires
-read_scope-scope-requires c =
-    (c.requires.2, (in_range _ _ _ _ _ _ (number_is c.number_within-first.ensures c.in-Read.is)).1)
+pub read_scope-requires : goal.read_scope-requires
+read_scope-requires c = let a = c.args in (c.requires.0, (arity_bounds a.text.now a.sizes.now a.used a.at c.in_ok-arity.ensures).1)
 
-pub tuple_count-counted-requires : goal.tuple_count-counted-requires
-tuple_count-counted-requires c =
-    (c.requires.3, (in_range _ _ _ _ _ _ (number_is c.number_within-first.ensures c.in-Read.is)).1)
+pub tuple_count-requires : goal.tuple_count-requires
+tuple_count-requires c = let a = c.args in (c.requires.1, (arity_bounds a.text.now a.sizes.now a.used a.at c.in_ok-arity.ensures).1)
 
-pub read_tuples-step-requires : goal.read_tuples-step-requires
-read_tuples-step-requires c =
+pub slice_bounds-variables-end : goal.slice_bounds-variables-end
+slice_bounds-variables-end c = let a = c.args in arity_inside a.text.now a.sizes.now a.used a.at c.in_ok-arity.ensures c.in_ok-scope.scope.what (search rules)
+
+pub slice_bounds-heading-end : goal.slice_bounds-heading-end
+slice_bounds-heading-end c =
     let a = c.args in
-    let p = c.requires in
-    let room = room_holds a.used c.in-Read.arity c.in-Read-counted.count (tests_passed _ _ _ (number_is c.tuple_count-counted.ensures c.in-Read-counted.is)).0 in
-    let arity = in_range _ _ _ _ _ _ (number_is c.number_within-first.ensures c.in-Read.is) in
-    (p.0, c.read_scope-scope.ensures.0, arity.1, omega (arith, room), p.4, arity.0)
+    sym (length-take-le _ _ (arity_inside a.text.now a.sizes.now a.used a.at c.in_ok-arity.ensures c.in_ok-scope.scope.what (search rules)))
+
+pub read_tuples-requires : goal.read_tuples-requires
+read_tuples-requires c =
+    let a = c.args in
+    let arity = c.in_ok-arity.arity.what in
+    let scope = c.in_ok-scope.scope.what in
+    let b = arity_bounds a.text.now a.sizes.now a.used a.at c.in_ok-arity.ensures in
+    let so_many : length (take arity scope) ≡ arity = length-take-le arity scope (arity_inside a.text.now a.sizes.now a.used a.at c.in_ok-arity.ensures scope (search rules)) in
+    let room = fits a.text.now a.sizes.now a.used a.at c.in_ok-arity.ensures c.in_ok-scope.ensures c.in_ok-default.ensures c.in_ok-count.ensures in
+    (known a.text.now a.sizes.now a.used a.at c.in_ok-arity.ensures c.in_ok-scope.ensures, rw so_many (omega (arith, room)), c.requires.2, omega (arith, so_many, b.0))
 
 pub overflow_mul-result : goal.overflow_mul-result
 overflow_mul-result c =
-    let room = room_holds c.args.used c.in-Read.arity c.in-Read-counted.count (tests_passed _ _ _ (number_is c.tuple_count-counted.ensures c.in-Read-counted.is)).0 in
-    omega (arith, room)
+    let a = c.args in
+    omega (arith, fits a.text.now a.sizes.now a.used a.at c.in_ok-arity.ensures c.in_ok-scope.ensures c.in_ok-default.ensures c.in_ok-count.ensures)
 
 pub returns : goal.returns
 returns c =
     let a = c.args in
-    let p = c.requires in
-    let long : length a.sizes ≡ 32 = array_length w8 32 a.sizes _ c.well_formed.1.1.0 in
-    (c.read_tuples-step.ensures.0, the_table a.text.now a.sizes a.n a.used a.at (omega (arith, long, p.2)) p.1 c.number_within-first.ensures c.in-Read.is _ c.read_scope-scope.ensures.2 c.in-Read-named.is c.any_number-cost.ensures c.in-Read-cost.is c.tuple_count-counted.ensures c.in-Read-counted.is _ c.read_tuples-step.ensures.1 _ c.sort_by.ensures c.read_scope-scope.ensures.1)
+    (c.read_tuples.ensures.0, the_table a.text.now a.sizes.now a.used a.at c.in_ok-arity.ensures c.in_ok-scope.ensures c.in_ok-default.ensures c.in_ok-count.ensures _ c.in_ok-listed.ensures.1 _ c.sort_by.ensures (search rules))

@@ -1,9 +1,0 @@
--- `compare::second_filter::decided` meets its contract.
-use Rattle.std.proofs.Common.{◌-◌}
-use Rattle.compare.proofs.second_filter.decided.Given as goal
-
-abbrev pub invariant-loop-k : goal.invariant-loop-k
-invariant-loop-k l = Unit
-
-abbrev pub decreases-loop-k : goal.decreases-loop-k
-decreases-loop-k l = l.record.decisions - l.k

@@ -1,0 +1,8 @@
+-- `reading::any_number` meets its contract.
+use Rattle.std.proofs.Common.{rules}
+use Rattle.meaning.specs.Refusals.{first}
+use Rattle.reading.proofs.any_number.Goals as goal
+
+pub returns : goal.returns
+unfolding first
+returns c = c.number_judged.ensures _ (λ v l r said. search rules)

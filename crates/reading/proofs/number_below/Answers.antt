@@ -1,0 +1,8 @@
+-- `reading::number_below` meets its contract.
+use Rattle.std.proofs.Common.{rules}
+use Rattle.meaning.specs.Refusals.{first}
+use Rattle.reading.proofs.number_below.Goals as goal
+
+pub returns : goal.returns
+unfolding first
+returns c = c.number_judged.ensures _ (λ v l r said. search rules)
