@@ -1,8 +1,8 @@
 -- Keeping a part of one variable's list. Assumes nothing.
-use mathlib.Core.Path.{◌≡◌, refl, sym, ap, ◌∙◌}
-use mathlib.Core.Logic.{◌⊎◌, ⊎_elim, by_cases}
+use mathlib.Core.Path.{◌≡◌, sym, ap, ◌∙◌}
+use mathlib.Core.Logic.{⊎_elim, by_cases}
 use mathlib.Core.List.{List}
-use Prim.Native.Nat.{ℕ, ◌*◌, ◌%◌, ◌^◌, ◌≤◌, ◌<◌}
+use Prim.Native.Nat.{ℕ, ◌*◌, ◌%◌, ◌^◌, ◌<◌}
 use native.Mathlib.Decide.{ℕ_discrete}
 use native.Mathlib.Omega.{arith}
 use lib.Bits.{bit_and}
@@ -50,12 +50,6 @@ module _ (L : List ℕ) (x m : ℕ) (inside : x < length L) where
   })
 
 -- ---- where there is no such list, and where there is one
-
-pub no_list : (L : List ℕ) (x m : ℕ) → (variable_limit ≤ x) ⊎ ¬ (length L ≡ variable_limit) → KeptIn L x m L 0
-no_list L x m past = record {
-  kept = λ l long. absurd (⊎_elim (λ h. omega arith) (λ n. n long) past);
-  none = λ _. (refl, refl);
-}
 
 pub one_list : {L : List ℕ} {x m : ℕ} {K : List ℕ} {c : ℕ} → x < variable_limit → length L ≡ variable_limit → Kept L x m K c → KeptIn L x m K c
 one_list l long k = record {

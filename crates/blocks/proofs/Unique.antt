@@ -12,16 +12,16 @@ use Rattle.meaning.proofs.Digits.{bit_cases, bit_iff, ext_all}
 use Rattle.blocks.specs.Keeping.{Changed, Kept, KeptIn}
 use Rattle.blocks.specs.Blocks.{ListOf, Copied, PutLists, ClearedAfter}
 
-pub list_of_unique : (l : List ℕ) (k x : ℕ) (r s : ℕ) → ListOf l k x r → ListOf l k x s → r ≡ s
+pub list_of_unique : (l : List (List ℕ)) (k x : ℕ) (r s : ℕ) → ListOf l k x r → ListOf l k x s → r ≡ s
 list_of_unique l k x r s h e = h ∙ sym e
 
-pub lists_after_unique : (l : List ℕ) (k : ℕ) (r s : List ℕ) → Copied l k r → Copied l k s → r ≡ s
+pub lists_after_unique : (l : List (List ℕ)) (k : ℕ) (r s : List ℕ) → Copied l k r → Copied l k s → r ≡ s
 lists_after_unique l k r s h e = ext_get_or 0 r s (h.long ∙ sym e.long) (λ x i. h.each x ∙ sym (e.each x))
 
-pub put_lists_unique : (l : List ℕ) (k : ℕ) (left after later : List ℕ) → PutLists l k left after → PutLists l k left later → after ≡ later
+pub put_lists_unique : (l : List (List ℕ)) (k : ℕ) (left : List ℕ) (after later : List (List ℕ)) → PutLists l k left after → PutLists l k left later → after ≡ later
 put_lists_unique l k left after later h e = h ∙ sym e
 
-pub clear_after_unique : (l : List ℕ) (k : ℕ) (after later : List ℕ) → ClearedAfter l k after → ClearedAfter l k later → after ≡ later
+pub clear_after_unique : (l : List (List ℕ)) (k : ℕ) (after later : List (List ℕ)) → ClearedAfter l k after → ClearedAfter l k later → after ≡ later
 clear_after_unique l k after later h e = h ∙ sym e
 
 -- ---- keeping a part of a list

@@ -1,63 +1,74 @@
--- Blocks written and emptied, where there is such a block and where there is none. Assumes nothing.
-use mathlib.Core.Path.{◌≡◌, refl, sym, ap, ◌∙◌}
-use mathlib.Core.Logic.{◌⊎◌, inl, inr, ⊎_elim, by_cases}
-use mathlib.Core.Bool.{Bool, cond}
-use mathlib.Core.List.{List, [], ◌∷◌}
-use Prim.Native.Nat.{ℕ, zero, suc, ◌+◌, ◌-◌, ◌*◌, ◌≤◌, ◌<◌}
-use native.Mathlib.Nat.{add-zero}
-use native.Mathlib.Decide.{dec_lt}
+-- Blocks written and emptied. Assumes nothing.
+use mathlib.Core.Path.{◌≡◌, sym, ap, ◌∙◌}
+use mathlib.Core.Logic.{by_cases}
+use mathlib.Core.List.{List, [], ◌++◌, append-nil}
+use Prim.Native.Nat.{ℕ, ◌+◌, ◌-◌, ◌≤◌, ◌<◌}
+use native.Mathlib.Decide.{ℕ_discrete, dec_lt}
 use native.Mathlib.Omega.{arith}
-use borrow.Author.Tests.{le-leb}
-use lib.ListN.{length, get_or, set, take, drop, replicate, length-set, length-drop, length-replicate}
-use lib.Seq.{sets, length-sets, ext_get_or, get_or-take, get_or-set_same, get_or-set_other, length-take-le}
-use Rattle.meaning.specs.Limits.{variable_limit, decision_limit}
-use Rattle.blocks.specs.Blocks.{block, block_places, with_block, zeroed_from}
+use lib.ListN.{length, get_or, set, take, drop, replicate, length-set, length-drop, length-append, length-replicate, get_or-append, get_or-replicate, get_or-eq_default}
+use lib.Seq.{get_or-take, get_or-set_same, get_or-set_other, get_or-append_right, length-take-le, take_all}
 use borrow.Rule.Slice.PartMut.{put_mid, mid_of}
-use Rattle.blocks.proofs.Copying.{put_part}
-use Rattle.blocks.proofs.Reading.{block_at, block_length}
+use Rattle.std.proofs.lemmas.List.{drop_all}
+use Rattle.meaning.specs.Limits.{variable_limit, decision_limit}
+use Rattle.blocks.specs.Blocks.{block_count, Whole, empty_block, list_after, emptied_after, ClearedAfter}
+use Rattle.blocks.proofs.Copying.{zeros_at}
 
-module _ (l : List ℕ) (k : ℕ) (left : List ℕ) where
-  pub with_block_lem : k ≤ decision_limit → with_block l k left ≡ sets l (variable_limit * k) left
-  with_block_lem h = ap (λ (b : Bool). cond b (sets l (variable_limit * k) left) l) (le-leb k decision_limit h)
+-- ---- one block written
 
-  -- all of it is written, as the code writes it
-  pub in_block : {m : List ℕ} {n : ℕ} → k ≤ decision_limit → length l ≡ block_places → n ≡ variable_limit → m ≡ left → length left ≡ variable_limit → put_mid (variable_limit * k) n l m ≡ with_block l k left
-  in_block {m} {n} h long e f size =
-      ap (put_mid (variable_limit * k) n l) f ∙ put_part l left (variable_limit * k) n (omega arith) (omega arith) ∙ sym (with_block_lem h)
-
--- all after it is emptied, as the code empties it
-pub emptied : (l : List ℕ) (from : ℕ) {m : List ℕ} → from ≤ block_places → length l ≡ block_places → m ≡ replicate (length (mid_of from (block_places - from) l)) 0
-    → put_mid from (block_places - from) l m ≡ zeroed_from l from
-emptied l from h long e =
-    let size : length (mid_of from (block_places - from) l) ≡ block_places - from = length-take-le (block_places - from) (drop from l) (omega (arith, length-drop from l)) in
-    ap (put_mid from (block_places - from) l) (e ∙ ap (λ (n : ℕ). replicate n 0) size)
-    ∙ put_part l (replicate (block_places - from) 0) from (block_places - from) (sym (length-replicate {A = ℕ} (block_places - from) 0)) (omega arith)
-
--- ---- reading what was written
-
-pub written_out : (l : List ℕ) (at : ℕ) (s : List ℕ) (i : ℕ) → (i < at) ⊎ (at + length s ≤ i) → get_or (sets l at s) i 0 ≡ get_or l i 0
-written_out l at [] i out = refl
-written_out l at (a ∷ s) i out =
-    written_out (set l at a) (suc at) s i (⊎_elim (λ low. inl (omega arith)) (λ high. inr (omega arith)) out)
-    ∙ get_or-set_other l at i a 0 (⊎_elim (λ low. omega arith) (λ high. omega arith) out)
-
-pub written_in : (l : List ℕ) (at : ℕ) (s : List ℕ) (j : ℕ) → j < length s → at + j < length l → get_or (sets l at s) (at + j) 0 ≡ get_or s j 0
-written_in l at [] j h i = absurd (omega arith)
-written_in l at (a ∷ s) zero h i =
-    written_out (set l at a) (suc at) s (at + 0) (inl (omega arith)) ∙ ap (λ (k : ℕ). get_or (set l at a) k 0) (add-zero at) ∙ get_or-set_same l at a 0 (omega arith)
-written_in l at (a ∷ s) (suc j) h i =
-    let next : at + suc j ≡ suc at + j = omega arith in
-    ap (λ (k : ℕ). get_or (sets (set l at a) (suc at) s) k 0) next ∙ written_in (set l at a) (suc at) s j (omega arith) (omega (arith, length-set l at a))
-
-module _ (l : List ℕ) (k : ℕ) (left : List ℕ) (long : length left ≡ variable_limit) where
+module _ (l : List (List ℕ)) (k : ℕ) (left : List ℕ) where
   -- the block that is written
-  pub block_written : (n : ℕ) → length l ≡ block_places → k ≤ decision_limit → n ≤ variable_limit → block (sets l (variable_limit * k) left) k n ≡ take n left
-  block_written n all few small =
-      let after = sets l (variable_limit * k) left in
-      let size = block_length after k n (length-sets l (variable_limit * k) left ∙ all) few small in
-      ext_get_or 0 (block after k n) (take n left) (size ∙ sym (length-take-le n left (omega arith))) λ x i.
-      block_at after k n x (omega arith) ∙ written_in l (variable_limit * k) left x (omega arith) (omega arith) ∙ sym (get_or-take n left x 0 (omega arith))
+  pub block_written : Whole l → k ≤ decision_limit → get_or (set l k left) k [] ≡ left
+  block_written whole few = get_or-set_same l k left [] (omega (arith, whole.deep))
 
   -- the others stay
-  pub block_stays : (j x : ℕ) → x < variable_limit → ¬ (j ≡ k) → get_or (sets l (variable_limit * k) left) (variable_limit * j + x) 0 ≡ get_or l (variable_limit * j + x) 0
-  block_stays j x h other = written_out l (variable_limit * k) left (variable_limit * j + x) (by_cases (dec_lt j k) (λ low. inl (omega arith)) (λ high. inr (omega arith)))
+  pub block_stays : (j : ℕ) → ¬ (j ≡ k) → get_or (set l k left) j [] ≡ get_or l j []
+  block_stays j other = get_or-set_other l k j left [] other
+
+  pub whole_set : Whole l → length left ≡ variable_limit → Whole (set l k left)
+  whole_set whole long = record {
+    deep = length-set l k left ∙ whole.deep;
+    wide = λ j few. by_cases (ℕ_discrete j k) (λ q. rw q (ap length (block_written whole (omega (arith, few))) ∙ long)) (λ other. ap length (block_stays j other) ∙ whole.wide j few);
+  }
+
+-- ---- the later blocks emptied
+
+-- as the code empties them
+pub emptied : (l : List (List ℕ)) (k : ℕ) {m : List (List ℕ)} → k < decision_limit → length l ≡ block_count
+    → m ≡ replicate (length (mid_of (k + 1) (block_count - (k + 1)) l)) empty_block → ClearedAfter l k (put_mid (k + 1) (block_count - (k + 1)) l m)
+emptied l k {m} few deep e =
+    let n = block_count - (k + 1) in
+    let size : length (mid_of (k + 1) n l) ≡ length l - (k + 1) = length-take-le n (drop (k + 1) l) (omega (arith, length-drop (k + 1) l)) ∙ omega arith in
+    let none : drop n (drop (k + 1) l) ≡ [] = drop_all n (drop (k + 1) l) (omega (arith, length-drop (k + 1) l)) in
+    ap (λ (r : List (List ℕ)). take (k + 1) l ++ (m ++ r)) none ∙ ap (λ (r : List (List ℕ)). take (k + 1) l ++ r) (append-nil m ∙ e ∙ ap (λ (j : ℕ). replicate j empty_block) size)
+
+-- where there are none, nothing is done
+pub nothing_past : (l : List (List ℕ)) (k : ℕ) → decision_limit ≤ k → length l ≡ block_count → ClearedAfter l k l
+nothing_past l k deep long =
+    let left : length l - (k + 1) ≡ 0 = omega arith in
+    sym (ap (λ (j : ℕ). take (k + 1) l ++ replicate j empty_block) left ∙ append-nil (take (k + 1) l) ∙ take_all (k + 1) l (omega arith))
+
+module _ (l : List (List ℕ)) (k : ℕ) (few : k < length l) where
+  front : length (take (k + 1) l) ≡ k + 1
+  front = length-take-le (k + 1) l (omega arith)
+
+  -- the first ones stay
+  pub emptied_stays : (j : ℕ) → j ≤ k → get_or (emptied_after l k) j [] ≡ get_or l j []
+  emptied_stays j low =
+      get_or-append (take (k + 1) l) (replicate (length l - (k + 1)) empty_block) [] j (omega (arith, front)) ∙ get_or-take (k + 1) l j [] (omega arith)
+
+  -- the others are empty
+  pub emptied_past : (j : ℕ) → k < j → j < length l → get_or (emptied_after l k) j [] ≡ empty_block
+  emptied_past j high inside =
+      get_or-append_right (take (k + 1) l) (replicate (length l - (k + 1)) empty_block) j [] (omega (arith, front))
+      ∙ get_or-replicate (length l - (k + 1)) (j - length (take (k + 1) l)) empty_block [] (omega (arith, front))
+
+  pub whole_emptied : Whole l → Whole (emptied_after l k)
+  whole_emptied whole = record {
+    deep = length-append (take (k + 1) l) (replicate (length l - (k + 1)) empty_block) ∙ omega (arith, front, whole.deep, length-replicate {A = List ℕ} (length l - (k + 1)) empty_block);
+    wide = λ j h. by_cases (dec_lt k j) (λ high. ap length (emptied_past j high (omega (arith, whole.deep))) ∙ length-replicate {A = ℕ} variable_limit 0) (λ low. ap length (emptied_stays j (omega arith)) ∙ whole.wide j h);
+  }
+
+  pub none_after : (j x : ℕ) → k < j → list_after (emptied_after l k) j x ≡ 0
+  none_after j x high =
+      by_cases (dec_lt j (length l)) (λ inside. ap (λ (b : List ℕ). get_or b x 0) (emptied_past j high inside) ∙ zeros_at variable_limit x)
+      (λ out. ap (λ (b : List ℕ). get_or b x 0) (get_or-eq_default (emptied_after l k) [] {n = j} (omega (arith, front, length-append (take (k + 1) l) (replicate (length l - (k + 1)) empty_block), length-replicate {A = List ℕ} (length l - (k + 1)) empty_block))))

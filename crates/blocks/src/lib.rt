@@ -6,50 +6,44 @@ ghost use Rattle.blocks.specs.Blocks.{ListOf, Copied, PutLists, ClearedAfter};
 
 use meaning::{DECISIONS, VARIABLES};
 
-// How many lists there are.
-pub const PLACES: usize = VARIABLES * (DECISIONS + 1);
+// How many blocks there are.
+pub const BLOCKS: usize = DECISIONS + 1;
 
 // The list of the variable x after k decisions; 0 where there is no such place.
-#[tactic(auto, using(crate::proofs::Reading::place_is))]
-pub fn list_of(lists: &[u64; PLACES], k: usize, x: usize) -> u64
+pub fn list_of(lists: &[[u64; VARIABLES]; BLOCKS], k: usize, x: usize) -> u64
     ensures { ListOf lists.now k x result }
 {
-    if DECISIONS < k || VARIABLES <= x {
-        return 0;
-    }
-    lists[VARIABLES * k + x]
+    lists
+        .get(k)
+        .and_then(|block| block.get(x))
+        .copied()
+        .unwrap_or(0)
 }
 
 // The lists after k decisions.
-pub fn lists_after(lists: &[u64; PLACES], k: usize) -> [u64; VARIABLES]
+#[tactic(auto, using(crate::proofs::Reading::copied))]
+pub fn lists_after(lists: &[[u64; VARIABLES]; BLOCKS], k: usize) -> [u64; VARIABLES]
     ensures { Copied lists.now k result }
 {
-    let mut out = [0; VARIABLES];
-    if k <= DECISIONS {
-        let at = VARIABLES * k;
-        out.copy_from_slice(&lists[at..at + VARIABLES]);
-    }
-    out
+    lists.get(k).copied().unwrap_or([0; VARIABLES])
 }
 
 // Makes `left` the lists after k decisions, where there is such a block.
-#[tactic(auto, using(crate::proofs::Writing::in_block))]
-pub fn put_lists(lists: &mut [u64; PLACES], k: usize, left: [u64; VARIABLES])
+pub fn put_lists(lists: &mut [[u64; VARIABLES]; BLOCKS], k: usize, left: [u64; VARIABLES])
     ensures { PutLists lists.old k left lists.new }
 {
     if k <= DECISIONS {
-        let at = VARIABLES * k;
-        lists[at..at + VARIABLES].copy_from_slice(&left);
+        lists[k] = left;
     }
 }
 
 // Empties the lists of every depth above k.
-#[tactic(auto, using(crate::proofs::Writing::emptied))]
-pub fn clear_after(lists: &mut [u64; PLACES], k: usize)
+#[tactic(auto, using(crate::proofs::Writing::nothing_past))]
+pub fn clear_after(lists: &mut [[u64; VARIABLES]; BLOCKS], k: usize)
     ensures { ClearedAfter lists.old k lists.new }
 {
-    if k <= DECISIONS {
-        lists[VARIABLES * k + VARIABLES..].fill(0);
+    if k < DECISIONS {
+        lists[k + 1..].fill([0; VARIABLES]);
     }
 }
 

@@ -30,6 +30,24 @@ impl From<Refusal> for Number {
     }
 }
 
+impl From<Solved> for Outcome {
+    fn from(solved: Solved) -> Outcome {
+        match solved {
+            Solved::Found => Outcome::Found,
+            Solved::Inconsistent => Outcome::Inconsistent,
+        }
+    }
+}
+
+impl From<Sort> for state::Sort {
+    fn from(sort: Sort) -> state::Sort {
+        match sort {
+            Sort::Allow => state::Sort::Allow,
+            Sort::Forbid => state::Sort::Forbid,
+        }
+    }
+}
+
 impl Library {
     #[tactic(auto, using(state::proofs::Runs::reached_new))]
     pub(crate) fn new() -> Self {
@@ -45,10 +63,7 @@ impl Library {
 
     // Solves into the buffer's first places.
     pub(crate) fn solved(&self, buffer: &mut [u8]) -> Result<Outcome, Number> {
-        match leximin::solve(self.state, buffer)? {
-            Solved::Found => Ok(Outcome::Found),
-            Solved::Inconsistent => Ok(Outcome::Inconsistent),
-        }
+        Ok(leximin::solve(self.state, buffer)?.into())
     }
 
     #[tactic(auto, using(state::proofs::Runs::reached_after))]
@@ -67,13 +82,9 @@ impl Library {
 
     #[tactic(auto, using(state::proofs::Runs::reached_after))]
     fn add_table(&mut self, table: &Table) -> Result<(), Number> {
-        let sort = match table.sort {
-            Sort::Allow => state::Sort::Allow,
-            Sort::Forbid => state::Sort::Forbid,
-        };
         let scope = table.scope.as_slice();
         let cells = table.cells.as_slice();
-        self.keep(state::add_table(self.state, sort, scope, cells))
+        self.keep(state::add_table(self.state, table.sort.into(), scope, cells))
     }
 
     #[tactic(auto, using(state::proofs::Runs::reached_after))]

@@ -2,12 +2,12 @@
 use mathlib.Core.Path.{◌≡◌, refl, sym, ap, ◌∙◌}
 use mathlib.Core.Logic.{inl, inr, by_cases}
 use mathlib.Core.List.{List, [], ◌∷◌}
-use Prim.Native.Nat.{ℕ, ◌+◌, ◌*◌, ◌≤◌, ◌<◌}
+use Prim.Native.Nat.{ℕ, ◌+◌, ◌≤◌, ◌<◌}
 use native.Mathlib.Decide.{ℕ_discrete, dec_lt}
 use native.Mathlib.Omega.{arith}
 use borrow.Author.Tests.{le-leb, lt-leb, leb-false, eqb-false}
 use lib.ListN.{length, get_or, set, take, length-append, length-set, get_or-eq_default}
-use lib.Seq.{sets, get_or-set_same, get_or-set_other, set-get_or, length-take-le}
+use lib.Seq.{get_or-set_same, get_or-set_other, set-get_or, length-take-le}
 use Rattle.meaning.specs.Limits.{value_limit, variable_limit, decision_limit}
 use Rattle.meaning.specs.Refusals.{number, first, no_such_variable}
 use Rattle.meaning.specs.Values.{bit, Has}
@@ -34,7 +34,7 @@ use Rattle.meaning.proofs.Finding.{finds}
 use Rattle.state.proofs.Answering.{refuses, accepts}
 use Rattle.state.proofs.Holding.{current}
 use Rattle.values.proofs.One.{alone_is}
-use Rattle.blocks.proofs.Reading.{block_at, block_length, in_a_block}
+use Rattle.blocks.proofs.Reading.{block_at, block_length}
 use Rattle.filters.proofs.Closing.{empty_within}
 use Rattle.filters.proofs.Sweeping.{toward_start, toward_end}
 use Rattle.state.proofs.Depths.{first_within, within_first, settled, closed_same, wide_block, same_within}
@@ -49,7 +49,6 @@ module _ (s : State) (w : Standing) (L : List ℕ) (p : Proper w) (hold : Holds 
   left_here known =
       let e : L ≡ block s.lists s.depth (length w.declared) = largest_unique most (rw hold.depth (current hold)) in
       ap (λ (l : List ℕ). get_or l x 0) e ∙ block_at s.lists s.depth (length w.declared) x (omega (arith, hold.variables))
-      ∙ sym (in_a_block s.lists s.depth x (omega (arith, hold.depth, p.decisions)) ∙ block_at s.lists s.depth variable_limit x (omega (arith, hold.variables, p.variables)))
 
   -- the tests by what the state says are document 01's
   pub tests_right : (v : ℕ) → first (decision_tests w L x v) ≡ first (tests_in s x v)
@@ -74,8 +73,8 @@ set_same K L x m i j e y =
     by_cases (ℕ_discrete y x) (λ q. rw (q, get_or-set_same K x m 0 i, get_or-set_same L x m 0 j))
     (λ n. get_or-set_other K x y m 0 n ∙ e y ∙ sym (get_or-set_other L x y m 0 n))
 
-abbrev next : State → List ℕ → List ℕ
-next s M = sets s.lists (variable_limit * (s.depth + 1)) M
+abbrev next : State → List ℕ → List (List ℕ)
+next s M = set s.lists (s.depth + 1) M
 
 module _ (s : State) (x kept : ℕ) (M : List ℕ) (known : x < s.variables) (few : s.depth < decision_limit)
     (largest : LargestIn (rules_at (heads_held s) s.room) (set (block s.lists s.depth variable_limit) x kept) M) where
@@ -90,11 +89,11 @@ module _ (s : State) (x kept : ℕ) (M : List ℕ) (known : x < s.variables) (fe
 
     wide_length : length wide ≡ variable_limit
     unfolding wide
-    wide_length = block_length s.lists s.depth variable_limit hold.lists.long (omega arith) (omega arith)
+    wide_length = block_length s.lists s.depth variable_limit hold.lists.whole (omega arith) (omega arith)
 
     narrow_length : length narrow ≡ length w.declared
     unfolding narrow
-    narrow_length = block_length s.lists s.depth (length w.declared) hold.lists.long (omega arith) p.variables
+    narrow_length = block_length s.lists s.depth (length w.declared) hold.lists.whole (omega arith) p.variables
 
     same : (y : ℕ) → get_or (set wide x kept) y 0 ≡ get_or (set narrow x kept) y 0
     unfolding wide narrow
@@ -143,8 +142,8 @@ nothing_removed {s} (h, w, l, hold) x kept {b} eb same =
     rw (← same, set-get_or b x 0, eb, rules_held s w p hold) (toward_end (toward_start w.rules wide) shut)
 
 -- the same, as the code comes by it: from a copy of the block, and what is written back
-pub narrows_by : (s : State) (x kept : ℕ) (b M l : List ℕ) → x < s.variables → s.depth < decision_limit → b ≡ block s.lists s.depth variable_limit
-    → l ≡ sets s.lists (variable_limit * (s.depth + 1)) M → LargestIn (rules_at (heads_held s) s.room) (set b x kept) M
+pub narrows_by : (s : State) (x kept : ℕ) (b M : List ℕ) (l : List (List ℕ)) → x < s.variables → s.depth < decision_limit → b ≡ block s.lists s.depth variable_limit
+    → l ≡ set s.lists (s.depth + 1) M → LargestIn (rules_at (heads_held s) s.room) (set b x kept) M
     → Narrowed s x kept (at_depth s (s.depth + 1) l)
 narrows_by s x kept b M l known few eb el largest =
     rw el (narrows s x kept M known few (rw eb at largest))

@@ -11,9 +11,7 @@ use filters::settled;
 use meaning::DECISIONS;
 use refusals::Refusal;
 use state::{AfterCall, State};
-
-// A value is below it.
-const VALUES: usize = 64;
+use values::VALUES;
 
 // Keeps the value v of the variable x alone.
 pub fn pin(s: State, x: u8, v: u8) -> AfterCall

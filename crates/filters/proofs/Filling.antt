@@ -1,11 +1,11 @@
 -- A list filled from the front, one store a turn. Assumes nothing.
-use mathlib.Core.Path.{◌≡◌, ap, ◌∙◌}
+use mathlib.Core.Path.{◌≡◌}
 use mathlib.Core.Logic.{by_cases}
 use mathlib.Core.List.{List}
 use Prim.Native.Nat.{ℕ, ◌+◌, ◌≤◌, ◌<◌}
 use native.Mathlib.Decide.{dec_lt}
 use native.Mathlib.Omega.{arith}
-use lib.ListN.{length, get_or, set, length-set}
+use lib.ListN.{length, get_or, set}
 use lib.Seq.{get_or-set_same, get_or-set_other}
 
 -- what holds of each element before n, and of x at n, holds of each before n + 1 once x is stored there
@@ -20,11 +20,3 @@ pub record Mapped (f : ℕ → ℕ → ℕ) (O : List ℕ) (n : ℕ) (M : List �
   pub long : length M ≡ length O
   pub done : (j : ℕ) → j < n → get_or M j 0 ≡ f j (get_or O j 0)
   pub left : (j : ℕ) → n ≤ j → get_or M j 0 ≡ get_or O j 0
-
-module _ (f : ℕ → ℕ → ℕ) (O : List ℕ) where
-  pub mapped_more : (n : ℕ) (M : List ℕ) → n < length M → Mapped f O n M → Mapped f O (n + 1) (set M n (f n (get_or M n 0)))
-  mapped_more n M h m = record {
-    long = length-set M n (f n (get_or M n 0)) ∙ m.long;
-    done = filled_more (λ j x. x ≡ f j (get_or O j 0)) M n (f n (get_or M n 0)) h m.done (ap (f n) (m.left n (omega arith)));
-    left = λ j l. get_or-set_other M n j (f n (get_or M n 0)) 0 (λ e. omega arith) ∙ m.left j (omega arith);
-  }

@@ -2,7 +2,7 @@
 use mathlib.Core.Path.{◌≡◌, ap, ◌∙◌}
 use mathlib.Core.Logic.{◌↔◌, by_cases}
 use Prim.Native.Nat.{ℕ, ◌+◌, ◌-◌, ◌*◌, ◌/◌, ◌^◌, ◌≤◌, ◌<◌}
-use native.Mathlib.Nat.{mul-add, add-mul, mul_comm, mul-le-mul_left, zero-mul, le-div_iff_mul-le, div-lt_iff_lt-mul}
+use native.Mathlib.Nat.{mul-add, add-mul, mul_comm, mul-le-mul_left, zero-mul, le-div_iff_mul-le}
 use native.Mathlib.Decide.{dec_lt}
 use native.Mathlib.Omega.{arith}
 use Rattle.meaning.specs.Limits.{coefficient_limit}
@@ -21,9 +21,6 @@ module _ (a d slack : ℕ) (past : slack < a * d) where
     where
       go : a ≡ 0 → ⊥
       go e = omega (arith, rw (e, zero-mul d) at past)
-
-  pub reach_short : slack / a < d
-  reach_short = (div-lt_iff_lt-mul weight_some).1 (rw (mul_comm a d) at past)
 
 -- what a weight makes of two values, by their distance
 within_iff : (a slack p q : ℕ) → 0 < a → p ≤ q → (q - p ≤ slack / a) ↔ (a * q ≤ slack + a * p)
@@ -46,12 +43,6 @@ module _ (m lo hi : ℕ) (low : Lowest m lo) (high : Highest m hi) where
 
   pub to_high : (v : ℕ) → Has m v → v ≤ hi
   to_high v h = by_cases (dec_lt hi v) (λ l. let z = high.none v l in absurd (omega arith)) (λ f. omega arith)
-
-  pub low_high : lo ≤ hi
-  low_high = by_cases (dec_lt lo 64) (λ l. to_high lo (low.here l)) (λ f. go f)
-    where
-      go : ¬ (lo < 64) → lo ≤ hi
-      go f = by_cases (dec_lt hi 64) (λ l. from_low hi (high.here l)) (λ g. let p = low.small in omega arith)
 
   module _ (k slack weight : ℕ) (is : weight ≡ rise k + fall k) where
     parts : (v : ℕ) → weight * v ≡ rise k * v + fall k * v

@@ -4,11 +4,9 @@ use mathlib.Core.List.{List, [], ◌∷◌, map, Memᴰ}
 use Prim.Native.Nat.{ℕ, suc, ◌+◌, ◌-◌, ◌^◌, ◌≤◌, ◌<◌}
 use native.Mathlib.Omega.{arith}
 use borrow.Author.Tests.{lt-ltb, le-ltb}
-use lib.Dec.{T}
 use lib.IntN.{ℤ, pos, negsuc, nat_abs, ◌+ℤ◌}
-use lib.Signed.{non_neg}
-use mir.Syntax.{Width, w32}
-use mir.Val.{Fits, SFits, bits, hbits, to_z, of_z}
+use mir.Syntax.{w32}
+use mir.Val.{SFits, hbits, to_z, of_z}
 use mir.ValLaws.{to_z-of_z}
 use Rattle.meaning.specs.Proper.{Around}
 use Rattle.filters.specs.Layout.{shift, unshift}
@@ -52,7 +50,3 @@ module _ (k : ℕ) (z : ℤ) (fits : SFits w32 z) (near : Around k z) where
 
     pub sum_kept : nat_abs (to_z w32 (of_z w32 (to_z w32 (of_z w32 z) +ℤ pos k))) ≡ shift k z
     sum_kept = ap nat_abs whole
-
-    pub sum_casts : (w : Width) → k + k < 2 ^ bits w
-        → T (non_neg (to_z w32 (of_z w32 (to_z w32 (of_z w32 z) +ℤ pos k)))) × Fits w (nat_abs (to_z w32 (of_z w32 (to_z w32 (of_z w32 z) +ℤ pos k))))
-    sum_casts w h = (subst⁻¹ (λ (y : ℤ). T (non_neg y)) whole tt, record { fits = omega (arith, sum_kept, shift_small k z near) })

@@ -23,15 +23,6 @@ pub record Summed (L s ks : List ℕ) (bound i above below : ℕ) : Type 0 where
   pub below_small : below ≤ bound + i * 4194304
   pub some : (j : ℕ) → j < i → 0 < get_or L (get_or s j 0) 0
 
-pub summed_none : (L s ks : List ℕ) (bound : ℕ) → Summed L s ks bound 0 bound_limit bound
-summed_none L s ks bound = record {
-  rising = refl;
-  falling = refl;
-  above_small = omega arith;
-  below_small = omega arith;
-  some = λ j h. absurd (omega arith);
-}
-
 weighed_next : (f : ℕ → ℕ) (L s ks : List ℕ) (i : ℕ) → i < length s → i < length ks
     → weighed f L (drop i s) (drop i ks) ≡ f (get_or ks i 0) * least_at (get_or ks i 0) (get_or L (get_or s i 0) 0) + weighed f L (drop (i + 1) s) (drop (i + 1) ks)
 unfolding weighed

@@ -4,11 +4,11 @@ use mathlib.Core.Logic.{by_cases}
 use mathlib.Core.Bool.{true, false, ◌&&◌}
 use mathlib.Core.List.{List}
 use Prim.Native.Nat.{ℕ, ◌+◌, ◌*◌, ◌≤◌, ◌<◌}
-use native.Mathlib.Decide.{ℕ_discrete, dec_lt}
+use native.Mathlib.Decide.{ℕ_discrete}
 use native.Mathlib.Omega.{arith}
 use borrow.Author.Tests.{eq-eqb, ne_eqb}
 use lib.Dec.{eqb}
-use lib.ListN.{length, get_or, set, take, replicate, length-set, length-take, length-replicate}
+use lib.ListN.{length, get_or, set, take, replicate, length-take, length-replicate}
 use lib.Seq.{get_or-set_same, get_or-set_other}
 use Rattle.meaning.specs.Limits.{value_limit}
 use Rattle.meaning.proofs.Counting.{one, count_le}
@@ -44,16 +44,6 @@ module _ (w : ℕ → ℕ) (O : List ℕ) where
         (λ e.
         rw (eq-eqb (w n) v e, ← e) (get_or-set_same C (cell n (w n)) counted 0 inside ∙ ap (λ (x : ℕ). x + 1) (t.left n (omega arith) (w n))))
         (λ d. rw (ne_eqb (w n) v d) (omega (arith, elsewhere (cell n v) (λ e. d (omega arith)), t.left n (omega arith) v)))
-
-    pub tallied_more : Tallied w O (n + 1) (set C (cell n (w n)) (get_or C (cell n (w n)) 0 + 1))
-    unfolding more counted
-    tallied_more = record {
-      long = length-set C (cell n (w n)) counted ∙ t.long;
-      done = λ j h v l.
-          by_cases (dec_lt j n) (λ k. elsewhere (cell j v) (λ e. omega arith) ∙ t.done j k v l)
-          (λ k. let e : j ≡ n = omega arith in rw e (at_n v));
-      left = λ j h v. elsewhere (cell j v) (λ e. omega arith) ∙ t.left j (omega arith) v;
-    }
 
 -- ---- tuple after tuple
 

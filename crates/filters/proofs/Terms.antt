@@ -12,7 +12,6 @@ use lib.ListN.{length, get_or}
 use Rattle.meaning.specs.Limits.{coefficient_limit}
 use Rattle.meaning.specs.Values.{Has}
 use Rattle.meaning.specs.Rules.{sum}
-use Rattle.meaning.specs.Proper.{Around}
 use Rattle.meaning.proofs.Whole.{up, dn, le_in, sum_parts, mul_parts}
 use Rattle.meaning.proofs.Linear.{Least}
 use Rattle.meaning.proofs.Listed.{Words}
@@ -32,13 +31,6 @@ unshift_parts k n = step (ltb n k) (ltb→lt n k) (nltb→le n k)
         → (up (cond t (negsuc (k - suc n)) (pos (n - k))) ≡ n - k) × (dn (cond t (negsuc (k - suc n)) (pos (n - k))) ≡ k - n)
     step true f g = let h = f tt in (omega arith, omega arith)
     step false f g = let h = g tt in (omega arith, omega arith)
-
-pub around_kept : (k n : ℕ) → Around k (unshift k n) → n ≤ k + k
-around_kept k n = step (ltb n k) (ltb→lt n k)
-  where
-    step : (t : Bool) → (T t → n < k) → Around k (cond t (negsuc (k - suc n)) (pos (n - k))) → n ≤ k + k
-    step true f h = let l = f tt in omega arith
-    step false f h = omega arith
 
 pub at_map : (ks : List ℕ) (j : ℕ) → j < length ks → get_or (map (unshift coefficient_limit) ks) j (pos 0) ≡ unshift coefficient_limit (get_or ks j 0)
 at_map [] j h = absurd (not-suc-le-zero h)

@@ -7,6 +7,7 @@ use Rattle.meaning.specs.Rules.{Rule}
 use Rattle.meaning.proofs.Largest.{same_lists}
 use Rattle.blocks.proofs.Unique.{changed_unique, done_or_not}
 use Rattle.filters.specs.declared.Head.{Head}
+use Rattle.filters.specs.Layout.{IsScope}
 use Rattle.filters.specs.Filter.{Filtered, Filtering, FiltersBy, SettlesLists}
 
 filtered_unique : {r : Rule} {L K M : List ℕ} → Filtered r L K → Filtered r L M → K ≡ M
@@ -26,3 +27,6 @@ filter_rule_unique heads room k L K M c d a b = done_or_not L k (length heads) (
 pub settled_unique : (heads : List Head) (room lists r q : List ℕ) → SettlesLists heads room lists r → SettlesLists heads room lists q → r ≡ q
 settled_unique heads room lists r q a b =
     same_lists (a.long ∙ sym b.long) (b.most r a.within a.closed) (a.most q b.within b.closed)
+
+pub scope_unique : (h : Head) (room s t : List ℕ) → IsScope h room s → IsScope h room t → s ≡ t
+scope_unique h room s t a b = a ∙ sym b

@@ -1,5 +1,5 @@
 -- How rules lie in a state: a head for each, and its numbers in the room.
-use Rattle.std.specs.Prelude.{List, [], ◌∷◌, ◌++◌, map, ℕ, suc, ◌+◌, ◌-◌, ◌*◌, ◌≤◌, ◌<◌, ℤ, pos, negsuc, length, get_or, take, drop, replicate}
+use Rattle.std.specs.Prelude.{◌≡◌, List, [], ◌∷◌, ◌++◌, map, ℕ, suc, ◌+◌, ◌-◌, ◌*◌, ◌≤◌, ◌<◌, ℤ, pos, negsuc, length, get_or, take, drop, replicate}
 use Rattle.std.proofs.Math.IntN.{sub_ℕ}
 use Rattle.meaning.specs.Limits.{coefficient_limit, bound_limit, variable_limit}
 use Rattle.meaning.specs.Rules.{Rule, allowed, forbidden, linear, scope_of, room}
@@ -22,6 +22,10 @@ unshift k n = sub_ℕ n k
 -- in the room, from a start: the variables, then the tuples or the coefficients
 abbrev pub scope_at : List ℕ → ℕ → ℕ → List ℕ
 scope_at room start arity = take arity (drop start room)
+
+-- the variables of a head, those that the room has
+abbrev pub IsScope : Head → List ℕ → List ℕ → Type 0
+IsScope h room s = s ≡ scope_at room h.start h.arity
 
 abbrev pub tuples_at : List ℕ → ℕ → ℕ → ℕ → List (List ℕ)
 tuples_at room start arity count = rows count arity (drop (start + arity) room)

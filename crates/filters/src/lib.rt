@@ -1,8 +1,7 @@
 // Dropping the values that have no support in a rule, and in all rules.
 #![tactic(auto)]
 
-ghost use Rattle.std.specs.Prelude.{◌≡◌};
-ghost use Rattle.filters.specs.Layout.{scope_at};
+ghost use Rattle.filters.specs.Layout.{IsScope};
 
 mod allowed;
 mod forbidden;
@@ -36,7 +35,7 @@ pub struct Head {
 impl Head {
     // Its variables in the room; those that the room has, where it ends before.
     pub fn scope<'a>(&self, room: &'a [u16]) -> &'a [u16]
-        ensures { result.now ≡ scope_at room.now self.now.start self.now.arity }
+        ensures { IsScope self.now room.now result.now }
     {
         let behind = room.get(self.start as usize..).unwrap_or(&[]);
         &behind[..behind.len().min(self.arity as usize)]

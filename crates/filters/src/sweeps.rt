@@ -53,9 +53,6 @@ pub fn settled(rules: Rules<'_>, lists: [u64; 32]) -> [u64; 32]
     ensures { SettlesLists rules.entry.heads.now rules.entry.room.now lists result }
 {
     let mut left = lists;
-    let mut changed: u64 = 1;
-    while changed != 0 {
-        changed = sweep(rules, &mut left);
-    }
+    while sweep(rules, &mut left) != 0 {}
     left
 }

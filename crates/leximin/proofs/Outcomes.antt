@@ -1,20 +1,19 @@
 -- What solving says: its refusals, that nothing meets all rules, and the answer in the buffer. Assumes nothing.
 use mathlib.Core.Path.{◌≡◌, refl, sym, ap, ◌∙◌}
-use mathlib.Core.Logic.{inl, inr}
+use mathlib.Core.Logic.{inr}
 use mathlib.Core.Bool.{Bool, false}
 use mathlib.Core.List.{List, [], ◌∷◌, ◌++◌}
-use Prim.Native.Nat.{ℕ, ◌≤◌, ◌<◌}
+use Prim.Native.Nat.{ℕ, ◌≤◌}
 use native.Mathlib.Omega.{arith}
-use borrow.Author.Tests.{eq-eqb, ne_eqb, le-ltb, lt-ltb}
+use borrow.Author.Tests.{ne_eqb, le-ltb}
 use lib.Dec.{eqb, ltb}
 use lib.ListN.{length, take, drop}
-use Rattle.std.specs.Prelude.{None, Some, Ok, Err}
+use Rattle.std.specs.Prelude.{None, Some, Ok}
 use Rattle.meaning.specs.Refusals.{number, no_objective, short_buffer}
 use Rattle.meaning.specs.Standing.{Standing}
 use Rattle.meaning.specs.Solutions.{Answer}
 use Rattle.meaning.specs.Calls.{solve_refusal}
 use Rattle.state.specs.declared.State.{State}
-use Rattle.refusals.specs.declared.Refusal.TheVariants.{NoObjective, ShortBuffer}
 use Rattle.leximin.specs.declared.Solved.TheVariants.{Found, Inconsistent}
 use Rattle.state.specs.Holds.{Holds}
 use Rattle.leximin.specs.Solving.{Solves, SolvedBy}
@@ -24,20 +23,9 @@ abbrev tests : Standing → ℕ → List (Bool × Rattle.meaning.specs.Refusals.
 tests w n = (eqb (length w.objectives) 0, no_objective) ∷ (ltb n (length w.declared), short_buffer) ∷ []
 
 module _ (s : State) (buffer : List ℕ) where
-  pub no_objective_lem : s.objectives ≡ 0 → Solves s buffer (Err NoObjective) buffer
-  no_objective_lem e h w l hold = record {
-    number = sym (finds (tests w (length buffer)) (number no_objective) (inl (eq-eqb (length w.objectives) 0 (sym hold.objectives ∙ e), refl)));
-    outcome = refl;
-  }
-
   module _ (named : ¬ (s.objectives ≡ 0)) where
     some_named : {w : Standing} → Holds s w → eqb (length w.objectives) 0 ≡ false
     some_named {w} hold = ne_eqb (length w.objectives) 0 (λ e. named (hold.objectives ∙ e))
-
-    pub short_buffer_lem : length buffer < s.variables → Solves s buffer (Err ShortBuffer) buffer
-    short_buffer_lem short h w l hold =
-        let few = lt-ltb (length buffer) (length w.declared) (omega (arith, hold.variables)) in
-        record { number = sym (finds (tests w (length buffer)) (number short_buffer) (inr (some_named hold, inl (few, refl)))); outcome = refl }
 
     module _ (room : s.variables ≤ length buffer) where
       accepted : {w : Standing} → Holds s w → 0 ≡ solve_refusal w (length buffer)

@@ -2,7 +2,7 @@
 use mathlib.Core.Path.{◌≡◌, refl, sym, ap, ◌∙◌}
 use mathlib.Core.Bool.{Bool, cond}
 use mathlib.Core.List.{List, [], ◌∷◌, ◌++◌, append_assoc, append-nil}
-use Prim.Native.Nat.{ℕ, zero, suc, ◌+◌, ◌*◌, ◌/◌, ◌%◌, ◌^◌, ◌≤◌, ◌<◌, zero-le}
+use Prim.Native.Nat.{ℕ, zero, suc, ◌+◌, ◌*◌, ◌/◌, ◌%◌, ◌^◌, ◌≤◌, ◌<◌}
 use native.Mathlib.Nat.{pow-suc}
 use native.Mathlib.Numerals.{add-one}
 use native.Mathlib.Omega.{arith}
@@ -11,6 +11,8 @@ use borrow.Author.Tests.{lt-ltb, le-ltb}
 use lib.Dec.{ltb}
 use lib.ListN.{length, get_or, take, drop, length-append, take-append-drop}
 use lib.Seq.{take-suc}
+use Rattle.std.specs.Fmt as Fmt
+use Rattle.std.proofs.lemmas.Fmt.{decimal_digit, decimal_step, length-decimal-le}
 use Rattle.lines.specs.Lines.{spell, decimal, field, numbers}
 
 -- ---- the digits
@@ -27,79 +29,28 @@ spell_from : (k n : ℕ) → 10 ≤ n → spell (suc k) n ≡ spell k (n / 10) +
 unfolding spell
 spell_from k n h = pick (ltb n 10) _ _ (le-ltb n 10 h)
 
--- a number of at most k + 1 digits has them all in k + 1 turns
-spell_enough : (k n : ℕ) → n < 10 ^ suc k → spell (suc k) n ≡ spell (suc (suc k)) n
-spell_enough zero n h = spell_below 0 n (omega arith) ∙ sym (spell_below 1 n (omega arith))
-spell_enough (suc k) n h = go (dec_lt n 10) (spell_enough k (n / 10))
+-- with enough turns they are the digits that std writes
+spell_same : (k n : ℕ) → n < 10 ^ suc k → n < 2 ^ 64 → spell (suc k) n ≡ Fmt.decimal n
+spell_same zero n h l = spell_below 0 n (omega arith) ∙ sym (decimal_digit n (omega arith))
+spell_same (suc k) n h l = go (dec_lt n 10) (spell_same k (n / 10))
   where
-    go : Dec (n < 10) → (n / 10 < 10 ^ suc k → spell (suc k) (n / 10) ≡ spell (suc (suc k)) (n / 10)) → spell (suc (suc k)) n ≡ spell (suc (suc (suc k))) n
-    go (yes q) i = spell_below (suc k) n q ∙ sym (spell_below (suc (suc k)) n q)
+    go : Dec (n < 10) → (n / 10 < 10 ^ suc k → n / 10 < 2 ^ 64 → spell (suc k) (n / 10) ≡ Fmt.decimal (n / 10)) → spell (suc (suc k)) n ≡ Fmt.decimal n
+    go (yes q) i = spell_below (suc k) n q ∙ sym (decimal_digit n q)
     go (no q) i =
         let p = pow-suc 10 (suc k) in
         spell_from (suc k) n (omega arith)
-        ∙ ap (λ (x : List ℕ). x ++ ((48 + n % 10) ∷ [])) (i (omega arith))
-        ∙ sym (spell_from (suc (suc k)) n (omega arith))
+        ∙ ap (λ (x : List ℕ). x ++ ((48 + n % 10) ∷ [])) (i (omega arith) (omega arith))
+        ∙ sym (decimal_step n (omega arith) l)
 
-spell_short : (j k n : ℕ) → n < 10 ^ suc k → length (spell j n) ≤ suc k
-unfolding spell
-spell_short zero k n h = zero-le
-spell_short (suc j) k n h = go k h (dec_lt n 10) (λ k. spell_short j k (n / 10))
-  where
-    go : (k : ℕ) → n < 10 ^ suc k → Dec (n < 10) → ((k : ℕ) → n / 10 < 10 ^ suc k → length (spell j (n / 10)) ≤ suc k) → length (spell (suc j) n) ≤ suc k
-    go k h (yes q) i = let e = ap length (spell_below j n q) in omega arith
-    go zero h (no q) i = absurd (omega arith)
-    go (suc k) h (no q) i =
-        let p = pow-suc 10 (suc k) in
-        let e = ap length (spell_from j n (omega arith)) in
-        let f = length-append (spell j (n / 10)) ((48 + n % 10) ∷ []) in
-        let l = i k (omega arith) in
-        omega arith
-
-pub decimal_below : (n : ℕ) → n < 10 → decimal n ≡ (48 + n) ∷ []
+pub decimal_same : (n : ℕ) → n < 2 ^ 64 → decimal n ≡ Fmt.decimal n
 unfolding decimal
-decimal_below n h = spell_below 19 n h
-
-pub decimal_from : (n : ℕ) → n < 2 ^ 64 → 10 ≤ n → decimal n ≡ decimal (n / 10) ++ ((48 + n % 10) ∷ [])
-unfolding decimal
-decimal_from n l h = spell_from 19 n h ∙ ap (λ (x : List ℕ). x ++ ((48 + n % 10) ∷ [])) (spell_enough 18 (n / 10) (omega arith))
-
--- one digit more than those of n / 10
-pub decimal_longer : (n : ℕ) → n < 2 ^ 64 → 10 ≤ n → length (decimal n) ≡ length (decimal (n / 10)) + 1
-decimal_longer n l h = ap length (decimal_from n l h) ∙ length-append (decimal (n / 10)) ((48 + n % 10) ∷ [])
-
--- a smaller number has no more digits
-spell_fewer : (k m n : ℕ) → m ≤ n → length (spell k m) ≤ length (spell k n)
-unfolding spell
-spell_fewer zero m n h = zero-le
-spell_fewer (suc k) m n h = go (dec_lt m 10) (dec_lt n 10) (spell_fewer k (m / 10) (n / 10))
-  where
-    go : Dec (m < 10) → Dec (n < 10) → (m / 10 ≤ n / 10 → length (spell k (m / 10)) ≤ length (spell k (n / 10))) → length (spell (suc k) m) ≤ length (spell (suc k) n)
-    go (yes p) (yes q) l = let e = ap length (spell_below k m p) in let f = ap length (spell_below k n q) in omega arith
-    go (yes p) (no q) l =
-        let e = ap length (spell_below k m p) in
-        let f = ap length (spell_from k n (omega arith)) in
-        let g = length-append (spell k (n / 10)) ((48 + n % 10) ∷ []) in
-        omega arith
-    go (no p) (yes q) l = absurd (omega arith)
-    go (no p) (no q) l =
-        let e = ap length (spell_from k m (omega arith)) in
-        let f = ap length (spell_from k n (omega arith)) in
-        let g = length-append (spell k (n / 10)) ((48 + n % 10) ∷ []) in
-        let i = length-append (spell k (m / 10)) ((48 + m % 10) ∷ []) in
-        let fewer = l (omega arith) in
-        omega arith
-
-pub decimal_fewer : (n m : ℕ) → m ≤ n → length (decimal m) ≤ length (decimal n)
-unfolding decimal
-decimal_fewer n m h = spell_fewer 20 m n h
+decimal_same n l = spell_same 19 n (omega arith) l
 
 pub byte_short : (n : ℕ) → n < 256 → length (decimal n) ≤ 3
-unfolding decimal
-byte_short n h = spell_short 20 2 n (omega arith)
+byte_short n h = omega (arith, ap length (decimal_same n (omega arith)), length-decimal-le 3 n (omega arith) (omega arith) (omega arith))
 
 pub offset_short : (n : ℕ) → n < 2 ^ 64 → length (decimal n) ≤ 20
-unfolding decimal
-offset_short n h = spell_short 20 19 n (omega arith)
+offset_short n h = omega (arith, ap length (decimal_same n h), length-decimal-le 20 n (omega arith) (omega arith) h)
 
 -- ---- numbers after spaces
 

@@ -8,7 +8,8 @@ use lib.ListN.{length, get_or, set, take, drop, length-append}
 use lib.Seq.{sets, sets-eq, drop-drop}
 use borrow.Rule.Slice.PartMut.{put_mid}
 use Rattle.lines.specs.Lines.{field, numbers}
-use Rattle.lines.specs.Writing.{Put, Written}
+use Rattle.lines.specs.declared.Writer.{Writer}
+use Rattle.lines.specs.Writing.{Put, Puts, Written}
 use Rattle.lines.proofs.Digits.{numbers_more}
 
 -- storing t and then w behind it stores t ++ w
@@ -19,22 +20,26 @@ sets_append (x ∷ t) w b at =
     ∙ sets_append t w (set b at x) (suc at)
 
 -- one text is put, and then another behind it
-pub put_both : {b t m w a : List ℕ} {at n r : ℕ} → Put b at t m n → Put m n w a r → Put b at (t ++ w) a r
+put_both : {b t m w a : List ℕ} {at n r : ℕ} → Put b at t m n → Put m n w a r → Put b at (t ++ w) a r
 put_both {b} {t} {m} {w} {a} {at} {n} {r} p q = record {
   is = q.is ∙ ap₂ (λ (x : List ℕ) (k : ℕ). sets x k w) p.is p.next ∙ sets_append t w b at;
   next = let e = length-append t w in omega (arith, p.next, q.next);
 }
 
--- the text is known by an equation
-pub put_as : {b t u a : List ℕ} {at r : ℕ} → t ≡ u → Put b at t a r → Put b at u a r
-put_as e p = rw e at p
+-- the same of a writer
+pub puts_both : {a m b : Writer} {t w : List ℕ} → Puts a t m → Puts m w b → Puts a (t ++ w) b
+puts_both p q = record { same = q.same ∙ p.same; size = q.size ∙ p.size; fits = q.fits; put = put_both p.put q.put }
 
 -- all that was put from the first place on
-pub written : {b t a : List ℕ} {r : ℕ} → r ≤ length b → Put b 0 t a r → Written b t a r
+written : {b t a : List ℕ} {r : ℕ} → r ≤ length b → Put b 0 t a r → Written b t a r
 written {b} {t} h p = record {
   is = p.is ∙ sets-eq t b 0 (omega (arith, p.next)) ∙ ap (λ (k : ℕ). t ++ drop k b) (zero-add (length t));
   counted = p.next ∙ zero-add (length t);
 }
+
+-- all that a writer put that began there
+pub wrote : {b t : List ℕ} {from to : Writer} → (from.out.now ≡ b) × (from.at ≡ 0) → Puts from t to → Written b t to.out.now to.at
+wrote e p = written (omega (arith, p.size, p.fits, ap length e.0)) (rw (sym e.0, sym e.1) p.put)
 
 -- the count lies within the buffer
 pub written_fits : {b t a : List ℕ} {r : ℕ} → Written b t a r → r ≤ length a
@@ -54,5 +59,5 @@ put_part b w at n {m} e f h = record {
 -- ---- numbers after spaces
 
 -- the first j numbers are put, and one more behind them
-pub put_more : (ns : List ℕ) (j : ℕ) {b m a : List ℕ} {at n r : ℕ} → j < length ns → Put b at (numbers (take j ns)) m n → Put m n (field (get_or ns j 0)) a r → Put b at (numbers (take (j + 1) ns)) a r
-put_more ns j h p q = put_as (numbers_more ns j h) (put_both p q)
+pub puts_more : (ns : List ℕ) (j : ℕ) {a m b : Writer} → j < length ns → Puts a (numbers (take j ns)) m → Puts m (field (get_or ns j 0)) b → Puts a (numbers (take (j + 1) ns)) b
+puts_more ns j {a} {m} {b} h p q = rw (sym (numbers_more ns j h)) (puts_both p q)

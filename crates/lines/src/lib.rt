@@ -1,84 +1,93 @@
 // The lines that the program writes (document 01), at the start of a lent buffer. Each function answers how many bytes it wrote.
 #![tactic(auto)]
 
-ghost use Rattle.std.specs.Prelude.{◌∷◌, [], ◌+◌, ◌≤◌, ◌<◌, length};
-ghost use Rattle.lines.specs.Lines.{decimal, field, numbers};
-ghost use Rattle.lines.specs.Writing.{Put};
+ghost use Rattle.std.specs.Prelude.{◌≡◌, ◌∷◌, []};
+ghost use Rattle.lines.specs.Lines.{field, numbers};
+ghost use Rattle.lines.specs.Writing.{HasRoom, Puts};
 ghost use Rattle.lines.specs.Promises.{WritesTooLong, WritesInconsistent, WritesRefused, WritesFound};
 
+use itoa::Buffer;
 use meaning::{OBJECTIVES, VARIABLES};
 
 // The buffer's bytes: room for `found` with 32 values and 16 objective values.
 pub const LINES: usize = 256;
 
-// Writes a byte at a place, and answers the next place.
-fn put_byte(out: &mut [u8], at: usize, byte: u8) -> usize
-    requires { at < length out.old }
-    ensures { Put out.old at (byte ∷ []) out.new result }
-{
-    out[at] = byte;
-    at + 1
+// The buffer that is written, and the place of the next byte.
+#[derive(Drop)]
+struct Writer<'a> {
+    out: &'a mut [u8],
+    at: usize,
 }
 
-// Writes a word's bytes from a place on, and answers the place behind them.
-#[tactic(auto, using(crate::proofs::Putting::put_part))]
-fn put_word(out: &mut [u8], at: usize, word: &[u8]) -> usize
-    requires { at + length word.now ≤ length out.old }
-    ensures { Put out.old at word.now out.new result }
-{
-    let end = at + word.len();
-    out[at..end].copy_from_slice(word);
-    end
-}
-
-// Writes a number's decimal digits from a place on.
-#[tactic(auto, using(crate::proofs::Digits::decimal_below))]
-fn put_number(out: &mut [u8], at: usize, n: usize) -> usize
-    requires { at + length (decimal n) ≤ length out.old }
-    ensures { Put out.old at (decimal n) out.new result }
-{
-    if n < 10 {
-        return put_byte(out, at, 48 + n as u8);
+impl<'a> Writer<'a> {
+    // Begins at the buffer's start.
+    fn new(out: &'a mut [u8]) -> Writer<'a>
+        ensures same_reference { result.out.ghost_name ≡ out.entry.ghost_name }
+        ensures begins { (result.out.now ≡ out.old) × (result.at ≡ 0) }
+    {
+        Writer { out, at: 0 }
     }
-    let end = put_number(out, at, n / 10);
-    put_byte(out, end, 48 + (n % 10) as u8)
-}
 
-// Writes a number after one space.
-fn put_field(out: &mut [u8], at: usize, n: usize) -> usize
-    requires { at + length (field n) ≤ length out.old }
-    ensures { Put out.old at (field n) out.new result }
-{
-    let end = put_byte(out, at, b' ');
-    put_number(out, end, n)
-}
-
-// Writes each number after one space.
-#[tactic(auto, using(crate::proofs::Digits::numbers_room))]
-fn put_numbers(out: &mut [u8], at: usize, ns: &[u8]) -> usize
-    requires { at + length (numbers ns.now) ≤ length out.old }
-    ensures { Put out.old at (numbers ns.now) out.new result }
-{
-    let mut end = at;
-    for n in ns {
-        end = put_field(out, end, *n as usize);
+    // Writes a byte.
+    fn byte(&mut self, byte: u8)
+        requires { HasRoom self.old (byte ∷ []) }
+        ensures { Puts self.old (byte ∷ []) self.new }
+    {
+        self.out[self.at] = byte;
+        self.at += 1;
     }
-    end
+
+    // Writes a word's bytes.
+    #[tactic(auto, using(crate::proofs::Putting::put_part))]
+    fn word(&mut self, word: &[u8])
+        requires { HasRoom self.old word.now }
+        ensures { Puts self.old word.now self.new }
+    {
+        let end = self.at + word.len();
+        self.out[self.at..end].copy_from_slice(word);
+        self.at = end;
+    }
+
+    // Writes a number after one space.
+    #[tactic(auto, using(crate::proofs::Digits::decimal_same, crate::proofs::Putting::puts_both))]
+    fn number(&mut self, n: usize)
+        requires { HasRoom self.old (field n) }
+        ensures { Puts self.old (field n) self.new }
+    {
+        let mut digits = Buffer::new();
+        self.byte(b' ');
+        self.word(digits.format(n).as_bytes());
+    }
+
+    // Writes each number after one space.
+    #[tactic(auto, using(crate::proofs::Digits::numbers_room))]
+    fn numbers(&mut self, ns: &[u8])
+        requires { HasRoom self.old (numbers ns.now) }
+        ensures { Puts self.old (numbers ns.now) self.new }
+    {
+        for n in ns {
+            self.number(usize::from(*n));
+        }
+    }
 }
 
 // The file has more bytes than the program takes.
-#[tactic(auto, using(crate::proofs::Putting::written), unfolding(crate::specs::Lines::too_long_line))]
+#[tactic(auto, using(crate::proofs::Putting::wrote), unfolding(crate::specs::Lines::too_long_line))]
 pub fn write_too_long(out: &mut [u8; LINES]) -> usize
     ensures { WritesTooLong out.old out.new result }
 {
-    put_word(out, 0, b"too long\n")
+    let mut writer = Writer::new(out);
+    writer.word(b"too long\n");
+    writer.at
 }
 
 // The network has no solution.
 pub fn write_inconsistent(out: &mut [u8; LINES]) -> usize
     ensures { WritesInconsistent out.old out.new result }
 {
-    put_word(out, 0, b"inconsistent\n")
+    let mut writer = Writer::new(out);
+    writer.word(b"inconsistent\n");
+    writer.at
 }
 
 // The file was refused: the refusal's number, and the offset.
@@ -86,11 +95,13 @@ pub fn write_inconsistent(out: &mut [u8; LINES]) -> usize
 pub fn write_refused(number: u8, at: usize, out: &mut [u8; LINES]) -> usize
     ensures { WritesRefused number at out.old out.new result }
 {
-    let mut end = put_word(out, 0, b"refused");
-    end = put_field(out, end, number as usize);
-    end = put_word(out, end, b" at");
-    end = put_field(out, end, at);
-    put_byte(out, end, b'\n')
+    let mut writer = Writer::new(out);
+    writer.word(b"refused");
+    writer.number(usize::from(number));
+    writer.word(b" at");
+    writer.number(at);
+    writer.byte(b'\n');
+    writer.at
 }
 
 // A solution was found: every variable's value, and the objective values upwards. It writes nothing for more than 32 or 16 of them.
@@ -98,15 +109,14 @@ pub fn write_refused(number: u8, at: usize, out: &mut [u8; LINES]) -> usize
 pub fn write_found(values: &[u8], sorted: &[u8], out: &mut [u8; LINES]) -> usize
     ensures { WritesFound values.now sorted.now out.old out.new result }
 {
-    if values.len() > VARIABLES {
+    if values.len() > VARIABLES || sorted.len() > OBJECTIVES {
         return 0;
     }
-    if sorted.len() > OBJECTIVES {
-        return 0;
-    }
-    let mut end = put_word(out, 0, b"found\nvalues");
-    end = put_numbers(out, end, values);
-    end = put_word(out, end, b"\nsorted");
-    end = put_numbers(out, end, sorted);
-    put_byte(out, end, b'\n')
+    let mut writer = Writer::new(out);
+    writer.word(b"found\nvalues");
+    writer.numbers(values);
+    writer.word(b"\nsorted");
+    writer.numbers(sorted);
+    writer.byte(b'\n');
+    writer.at
 }

@@ -2,13 +2,15 @@
 use mathlib.Core.Path.{◌≡◌, sym, ap, ◌∙◌}
 use mathlib.Core.Bool.{true≢false}
 use mathlib.Core.List.{List}
-use Prim.Native.Nat.{ℕ}
+use Prim.Native.Nat.{ℕ, ◌^◌, ◌<◌}
 use Rattle.refusals.specs.declared.Refusal.{Refusal}
 use Rattle.refusals.proofs.Unique.{same_refusal}
-use Rattle.std.specs.Prelude.{Ok, Err}
-use Rattle.reading.specs.Reading.{Reading, Tests, number}
-use Rattle.reading.specs.Steps.{ComesTo}
-use Rattle.reading.specs.Promises.{ComesToAnyNumber, ComesToNumberWithin, ComesToNumberBelow, ComesToName, ComesToEnd}
+use Rattle.std.specs.Prelude.{Result, Ok, Err, ⊤}
+use Rattle.reading.specs.Reading.{Reading, Tests}
+use Rattle.reading.specs.Steps.{ComesTo, Judges}
+use Rattle.reading.specs.declared.Fault.{Fault}
+use Rattle.text.specs.declared.Malformed.{Malformed}
+use Rattle.reading.specs.Promises.{IsFaultOf, ComesToNumberJudged, ComesToAnyNumber, ComesToNumberWithin, ComesToNumberBelow, ComesToName, ComesToEnd}
 use Rattle.reading.proofs.Readings.{fault_of, is_fault, what_or, place_or}
 use Rattle.reading.proofs.Coming.{Step}
 
@@ -27,10 +29,14 @@ step_unique reading (Ok r) (Ok s) a b =
     let after = ap (place_or 0) e in
     λ i. Ok (record { what = what i; after = after i })
 
+pub fault_unique : (m : Malformed) (f g : Fault) → IsFaultOf m f → IsFaultOf m g → f ≡ g
+fault_unique m f g a b = a ∙ sym b
+
 module _ (text : List ℕ) (at : ℕ) (r s : Step ℕ) where
-  -- by whatever tests the judge decides
-  pub number_judged_unique : (tests : Tests) → ComesTo (number text tests at) r → ComesTo (number text tests at) s → r ≡ s
-  number_judged_unique tests = step_unique _ r s
+  -- whatever the judge is, as long as what it says follows some tests
+  pub number_judged_unique : (Says : ℕ → Result ⊤ Refusal → Type 0) (tests : Tests) → ((v : ℕ) → v < 2 ^ 32 → Judges (Says v) (tests v))
+      → ComesToNumberJudged text at Says r → ComesToNumberJudged text at Says s → r ≡ s
+  number_judged_unique Says tests j a b = step_unique _ r s (a tests j) (b tests j)
 
   pub any_number_unique : ComesToAnyNumber text at r → ComesToAnyNumber text at s → r ≡ s
   any_number_unique = step_unique _ r s

@@ -1,24 +1,21 @@
 // Reading a text left to right: the next number or name, with the tests that it has to pass.
 #![tactic(auto)]
 
-ghost use Rattle.std.specs.Prelude.{◌≡◌, ℕ, ◌^◌, ◌<◌};
-ghost use Rattle.reading.specs.Reading.{Tests, number};
-ghost use Rattle.reading.specs.Steps.{ComesTo, Judges};
-ghost use Rattle.reading.specs.Promises.{ComesToAnyNumber, ComesToNumberWithin, ComesToNumberBelow, ComesToName, ComesToEnd};
-ghost use Rattle.refusals.specs.declared.Refusal.TheVariants as Wrong;
+ghost use Rattle.std.specs.Prelude.{ℕ, ◌^◌, ◌<◌};
+ghost use Rattle.reading.specs.Promises.{IsFaultOf, ComesToNumberJudged, ComesToAnyNumber, ComesToNumberWithin, ComesToNumberBelow, ComesToName, ComesToEnd};
 
 use refusals::Refusal;
 use text::{Malformed, read_name, read_number, skip_blanks};
 
 // Why the reading stops, and at which byte.
-#[derive(Clone, Copy)]
+#[derive(Clone, Copy, Debug, PartialEq, Eq)]
 pub struct Fault {
     pub refusal: Refusal,
     pub at: usize,
 }
 
 impl From<Malformed> for Fault {
-    ghost from_gives = { λ m f. f ≡ record { refusal = Wrong.Malformed; at = m.start } };
+    ghost from_gives = { IsFaultOf };
 
     fn from(malformed: Malformed) -> Fault {
         Fault {
@@ -45,7 +42,7 @@ pub fn number_judged<J: FnOnce(usize) -> Result<(), Refusal>>(
     judge: J,
 ) -> Step<usize>
     requires { (v : ℕ) → v < 2 ^ 32 → J.pre judge v }
-    ensures { (tests : Tests) → ((v : ℕ) → v < 2 ^ 32 → Judges (J.post judge v) (tests v)) → ComesTo (number text.now tests at) result }
+    ensures { ComesToNumberJudged text.now at (λ v. J.post judge v) result }
 {
     let number = read_number(text, at)?;
     let what = number.value as usize;

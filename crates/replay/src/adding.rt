@@ -8,14 +8,15 @@ use crate::words::Words;
 use state::Sort;
 
 // `var HEXMASK`
+#[tactic(auto, using(state::proofs::Runs::reached_after))]
 pub(crate) fn add_variable(desk: &mut Desk, words: Words) -> Result<Reply, BadLine> {
     let marks = mask(words.only()?)?;
     let after = setup::add_variable(desk.state, marks);
-    desk.count(after.answer);
     Ok(desk.keep(after))
 }
 
 // `table allow|forbid VARIABLES.. : CELLS..`
+#[tactic(auto, using(state::proofs::Runs::reached_after))]
 pub(crate) fn add_table(desk: &mut Desk, mut words: Words) -> Result<Reply, BadLine> {
     let sort = match words.word()? {
         b"allow" => Sort::Allow,
@@ -31,6 +32,7 @@ pub(crate) fn add_table(desk: &mut Desk, mut words: Words) -> Result<Reply, BadL
 }
 
 // `linear VARIABLES.. : COEFFICIENTS.. : BOUND`
+#[tactic(auto, using(state::proofs::Runs::reached_after))]
 pub(crate) fn add_linear(desk: &mut Desk, mut words: Words) -> Result<Reply, BadLine> {
     let mut scope = [0; NUMBERS];
     let scope = lists::read(&mut words, COLON, &mut scope)?;
@@ -42,6 +44,7 @@ pub(crate) fn add_linear(desk: &mut Desk, mut words: Words) -> Result<Reply, Bad
 }
 
 // `obj VARIABLES..`
+#[tactic(auto, using(state::proofs::Runs::reached_after))]
 pub(crate) fn name_objectives(desk: &mut Desk, mut words: Words) -> Result<Reply, BadLine> {
     let mut variables = [0; NUMBERS];
     let variables = lists::read(&mut words, None, &mut variables)?;

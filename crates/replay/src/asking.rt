@@ -10,11 +10,7 @@ use leximin::Solved;
 // `left VARIABLE`
 pub(crate) fn values_left(desk: &Desk, words: Words) -> Result<Reply, BadLine> {
     let variable = number(words.only()?)?;
-    let left = decide::values_left(desk.state, variable);
-    Ok(match left {
-        Ok(mask) => Reply::Left(mask),
-        Err(refusal) => Reply::Refused(refusal),
-    })
+    Ok(decide::values_left(desk.state, variable).into())
 }
 
 // `solve LENGTH`
@@ -23,7 +19,7 @@ pub(crate) fn solve(desk: &Desk, words: Words) -> Result<Reply, BadLine> {
     let mut buffer = [0; PLACES];
     let solved = leximin::solve(desk.state, &mut buffer[..length.min(PLACES)]);
     Ok(match solved {
-        Ok(Solved::Found) => Reply::Found(buffer, desk.variables),
+        Ok(Solved::Found) => Reply::Found(buffer, desk.state.variables),
         Ok(Solved::Inconsistent) => Reply::Inconsistent,
         Err(refusal) => Reply::Refused(refusal),
     })

@@ -13,18 +13,21 @@ fn variable_and_value(mut words: Words) -> Result<(u8, u8), BadLine> {
 }
 
 // `pin VARIABLE VALUE`
+#[tactic(auto, using(state::proofs::Runs::reached_after))]
 pub(crate) fn pin(desk: &mut Desk, words: Words) -> Result<Reply, BadLine> {
     let (variable, value) = variable_and_value(words)?;
     Ok(desk::pin(&mut desk.state, variable, value).into())
 }
 
 // `ban VARIABLE VALUE`
+#[tactic(auto, using(state::proofs::Runs::reached_after))]
 pub(crate) fn ban(desk: &mut Desk, words: Words) -> Result<Reply, BadLine> {
     let (variable, value) = variable_and_value(words)?;
     Ok(desk::ban(&mut desk.state, variable, value).into())
 }
 
 // `back DEPTH`
+#[tactic(auto, using(state::proofs::Runs::reached_after))]
 pub(crate) fn take_back(desk: &mut Desk, words: Words) -> Result<Reply, BadLine> {
     let depth = number(words.only()?)?;
     Ok(desk::take_back(&mut desk.state, depth).into())

@@ -4,20 +4,16 @@ ghost use Rattle.state.specs.Holds.{Reached};
 use crate::faults::BadLine;
 use crate::saying::Reply;
 use crate::words::Words;
-use refusals::Refusal;
 use state::{AfterCall, State};
 use std::marker::Model;
 
 #[derive(Drop)]
 pub(crate) struct Desk {
     pub(crate) state: State,
-    // how many were added
-    pub(crate) variables: usize,
 }
 
 // Calls on a new state have left the state that is kept, so that it may be lent to any other.
 impl Model for Desk {
-    ghost use Rattle.std.specs.Prelude.{◌≤◌};
     ghost use Rattle.state.specs.declared.State.{State};
     ghost use Rattle.state.specs.Holds.{Reached};
 
@@ -25,21 +21,14 @@ impl Model for Desk {
 
     ghost view = { λ d. d.state };
 
-    ghost invariant = { λ d. Reached d.state × (d.variables ≤ 32) };
+    ghost invariant = { λ d. Reached d.state };
 }
 
 impl Desk {
+    #[tactic(auto, using(state::proofs::Runs::reached_new))]
     pub(crate) fn new() -> Self {
         Desk {
             state: setup::new(),
-            variables: 0,
-        }
-    }
-
-    // A variable was asked for and answered so; the library takes no more than 32.
-    pub(crate) fn count(&mut self, answer: Result<(), Refusal>) {
-        if answer.is_ok() && self.variables < meaning::VARIABLES {
-            self.variables += 1;
         }
     }
 

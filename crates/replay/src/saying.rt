@@ -29,6 +29,15 @@ impl From<Result<(), Refusal>> for Reply {
     }
 }
 
+impl From<Result<u64, Refusal>> for Reply {
+    fn from(left: Result<u64, Refusal>) -> Self {
+        match left {
+            Ok(values) => Reply::Left(values),
+            Err(refusal) => Reply::Refused(refusal),
+        }
+    }
+}
+
 impl fmt::Display for Reply {
     fn fmt<W: fmt::Write>(&self, f: &mut fmt::Formatter<W>) -> fmt::Result {
         match self {

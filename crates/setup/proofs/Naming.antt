@@ -47,7 +47,7 @@ named_held xs named is hold = record {
   objective = is;
   depth = hold.depth;
   lists = record {
-    long = hold.lists.long;
+    whole = hold.lists.whole;
     left = λ k i. objectives_largest xs (hold.lists.left k i);
     rest = hold.lists.rest;
   };

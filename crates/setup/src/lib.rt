@@ -8,6 +8,7 @@ ghost use Rattle.state.specs.Holds.{Reached};
 ghost use Rattle.setup.specs.Promises.{IsNew, AddsVariable, NamesObjectives};
 
 use arguments::any_unknown;
+use blocks::BLOCKS;
 use filters::NO_HEAD;
 use meaning::{OBJECTIVES, ROOM, RULES, VARIABLES};
 use refusals::Refusal;
@@ -27,7 +28,7 @@ pub fn new() -> State
         objectives: 0,
         objective: [0; OBJECTIVES],
         depth: 0,
-        lists: [0; 1056],
+        lists: [[0; VARIABLES]; BLOCKS],
     }
 }
 
@@ -46,7 +47,7 @@ pub fn add_variable(s: State, marks: u64) -> AfterCall
     }
     let mut t = s;
     t.declared[n] = marks;
-    t.lists[n] = marks;
+    t.lists[0][n] = marks;
     t.variables = n + 1;
     AfterCall::accepted(t)
 }

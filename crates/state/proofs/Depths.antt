@@ -51,7 +51,7 @@ same_within K L e x v h = rw (e x) at h
 
 -- ---- blocks
 
-module _ (w : Standing) (p : Proper w) (l : List ℕ) (h : HoldsLists l w) where
+module _ (w : Standing) (p : Proper w) (l : List (List ℕ)) (h : HoldsLists l w) where
   -- a block in all its places leaves what it leaves to the variables
   pub wide_block : (k : ℕ) → k ≤ length w.decisions → (x : ℕ) → get_or (block l k variable_limit) x 0 ≡ get_or (block l k (length w.declared)) x 0
   wide_block k low x = by_cases (dec_lt x (length w.declared)) inside outside
@@ -65,5 +65,5 @@ module _ (w : Standing) (p : Proper w) (l : List ℕ) (h : HoldsLists l w) where
       outside : ¬ (x < length w.declared) → get_or (block l k variable_limit) x 0 ≡ get_or (block l k (length w.declared)) x 0
       outside out =
           by_cases (dec_lt x variable_limit) (λ i. block_at l k variable_limit x i ∙ h.rest k x i (inl (omega arith)))
-          (λ i. get_or-eq_default (block l k variable_limit) 0 {n = x} (omega (arith, block_length l k variable_limit h.long deep (omega arith))))
-          ∙ sym (get_or-eq_default (block l k (length w.declared)) 0 {n = x} (omega (arith, block_length l k (length w.declared) h.long deep p.variables)))
+          (λ i. get_or-eq_default (block l k variable_limit) 0 {n = x} (omega (arith, block_length l k variable_limit h.whole deep (omega arith))))
+          ∙ sym (get_or-eq_default (block l k (length w.declared)) 0 {n = x} (omega (arith, block_length l k (length w.declared) h.whole deep p.variables)))

@@ -3,11 +3,11 @@ use mathlib.Core.Path.{◌≡◌, sym, ap, ◌∙◌}
 use mathlib.Core.Logic.{◌⊎◌, inr, ⊎_elim, by_cases}
 use mathlib.Core.List.Memᴰ
 use mathlib.Core.List.{List, [], ◌∷◌, ◌++◌, Memᴰ}
-use Prim.Native.Nat.{ℕ, zero, suc, ◌+◌, ◌*◌, ◌≤◌, ◌<◌}
+use Prim.Native.Nat.{ℕ, zero, suc, ◌+◌, ◌≤◌, ◌<◌}
 use native.Mathlib.Decide.{ℕ_discrete}
 use native.Mathlib.Omega.{arith}
-use lib.ListN.{length, get_or, take, length-append, get_or-append, get_or-map, get_or-eq_default}
-use lib.Seq.{sets, length-sets, length-take-le}
+use lib.ListN.{length, get_or, set, take, length-append, get_or-append, get_or-map, get_or-eq_default}
+use lib.Seq.{length-take-le}
 use Rattle.meaning.specs.Limits.{variable_limit}
 use Rattle.meaning.specs.Rules.{Rule}
 use Rattle.meaning.specs.Standing.{Standing}
@@ -21,21 +21,21 @@ use Rattle.filters.specs.Layout.{no_head, rule_under, rules_at, rule_at}
 use Rattle.filters.specs.Held.{InRoom}
 use Rattle.filters.specs.declared.Head.{Head}
 use Rattle.filters.specs.Filter.{Filtering, FiltersBy, LargestIn, ClosedBy}
-use Rattle.blocks.specs.Blocks.{block}
+use Rattle.blocks.specs.Blocks.{block, list_after}
 use Rattle.state.specs.Holds.{Holds, HoldsLists, up_to, heads_held}
 use Rattle.state.specs.Additions.{LaidOut, Followable, Followed}
 use Rattle.state.proofs.Holding.{current, none_of}
 use Rattle.blocks.proofs.Reading.{block_length}
 use Rattle.filters.proofs.Closing.{follows_none, follows_some, empty_within}
 use Rattle.state.proofs.Depths.{wide_block, settled, first_within, within_first, same_within}
-use Rattle.blocks.proofs.Writing.{written_in, block_written, block_stays}
+use Rattle.blocks.proofs.Writing.{block_written, block_stays, whole_set}
 use Rattle.filters.proofs.Cells.{mem_at}
 use Rattle.filters.proofs.Rooms.{length_heads_of}
 use Rattle.filters.proofs.Laid.{laid_rules}
 use Rattle.filters.proofs.Closing.{closed_kept}
 use Rattle.state.proofs.Reading.{first_heads}
 
-abbrev pub with_lists : State → List ℕ → State
+abbrev pub with_lists : State → List (List ℕ) → State
 with_lists s l = record {
   variables = s.variables;
   declared = s.declared;
@@ -89,7 +89,7 @@ module _ (s t : State) (w : Standing) (r : Rule) (p : Proper w) (q : Proper (wit
   unfolding wide narrow
   followable {g} later = record {
     held = (g, with_rule w r, later, in_room);
-    lists = ap length l.lists ∙ hold.lists.long;
+    lists = rw l.lists hold.lists.whole;
     known = omega (arith, count, hold.rules);
     others = rw l.lists others;
   }
@@ -108,13 +108,13 @@ module _ (s t : State) (w : Standing) (r : Rule) (p : Proper w) (q : Proper (wit
 
     long : length M ≡ variable_limit
     unfolding M wide
-    long = largest.long ∙ block_length s.lists 0 variable_limit hold.lists.long (omega arith) (omega arith)
+    long = largest.long ∙ block_length s.lists 0 variable_limit hold.lists.whole (omega arith) (omega arith)
 
     past : (x : ℕ) → length w.declared ≤ x → get_or M x 0 ≡ 0
     unfolding narrow
     past x i =
         empty_within M wide x largest.within
-        (same x ∙ get_or-eq_default narrow 0 {n = x} (omega (arith, block_length s.lists 0 (length w.declared) hold.lists.long (omega arith) p.variables)))
+        (same x ∙ get_or-eq_default narrow 0 {n = x} (omega (arith, block_length s.lists 0 (length w.declared) hold.lists.whole (omega arith) p.variables)))
 
     left : Largest (with_rule w r) (take (length w.declared) M)
     left =
@@ -123,28 +123,26 @@ module _ (s t : State) (w : Standing) (r : Rule) (p : Proper w) (q : Proper (wit
         (first_within (length w.declared) M) (within_first (length w.declared) M past)
         (length-take-le (length w.declared) M (omega (arith, long, p.variables)))
 
-    lists : HoldsLists (sets s.lists 0 M) (with_rule w r)
+    lists : HoldsLists (set s.lists 0 M) (with_rule w r)
     lists = record {
-      long = length-sets s.lists 0 M ∙ hold.lists.long;
+      whole = whole_set s.lists 0 M hold.lists.whole long;
       left = at_depth_lem;
       rest = λ k x small out. by_cases (ℕ_discrete k 0) (first k x small out) (later k x small);
     }
       where
-        at_depth_lem : (k : ℕ) → k ≤ length w.decisions → Largest (up_to (with_rule w r) k) (block (sets s.lists 0 M) k (length w.declared))
+        at_depth_lem : (k : ℕ) → k ≤ length w.decisions → Largest (up_to (with_rule w r) k) (block (set s.lists 0 M) k (length w.declared))
         at_depth_lem zero i =
             let e = none_of w.decisions none in
-            let front = block_written s.lists 0 M long (length w.declared) hold.lists.long (omega arith) p.variables in
-            rw (front, ← e) left
+            rw (block_written s.lists 0 M hold.lists.whole (omega arith), ← e) left
         at_depth_lem (suc k) i = absurd (omega (arith, none))
 
-        first : (k x : ℕ) → x < variable_limit → (length w.declared ≤ x) ⊎ (length w.decisions < k) → k ≡ 0 → get_or (sets s.lists 0 M) (variable_limit * k + x) 0 ≡ 0
+        first : (k x : ℕ) → x < variable_limit → (length w.declared ≤ x) ⊎ (length w.decisions < k) → k ≡ 0 → list_after (set s.lists 0 M) k x ≡ 0
         first k x small out e =
             let i : length w.declared ≤ x = ⊎_elim (λ i. i) (λ i. absurd (omega arith)) out in
-            let at : variable_limit * k + x ≡ 0 + x = omega arith in
-            rw at (written_in s.lists 0 M x (omega (arith, long)) (omega (arith, hold.lists.long)) ∙ past x i)
+            rw (e, block_written s.lists 0 M hold.lists.whole (omega arith)) (past x i)
 
-        later : (k x : ℕ) → x < variable_limit → ¬ (k ≡ 0) → get_or (sets s.lists 0 M) (variable_limit * k + x) 0 ≡ 0
-        later k x small d = block_stays s.lists 0 M long k x small d ∙ hold.lists.rest k x small (inr (omega (arith, none)))
+        later : (k x : ℕ) → x < variable_limit → ¬ (k ≡ 0) → list_after (set s.lists 0 M) k x ≡ 0
+        later k x small d = ap (λ (b : List ℕ). get_or b x 0) (block_stays s.lists 0 M k d) ∙ hold.lists.rest k x small (inr (omega (arith, none)))
 
     pub followed_held : Holds u (with_rule w r)
     unfolding M
@@ -163,7 +161,7 @@ module _ (s t : State) (w : Standing) (r : Rule) (p : Proper w) (q : Proper (wit
         })
 
 -- as the code comes by it: from the rules that are held, a copy of the block, and what is written back
-module _ (s : State) (k : ℕ) (ready : Followable s k) (heads : List Head) (room : List ℕ) (held : (heads ≡ heads_held s) × (room ≡ s.room)) (b K l : List ℕ) (c : ℕ)
+module _ (s : State) (k : ℕ) (ready : Followable s k) (heads : List Head) (room : List ℕ) (held : (heads ≡ heads_held s) × (room ≡ s.room)) (b K : List ℕ) (l : List (List ℕ)) (c : ℕ)
     (eb : b ≡ block s.lists 0 variable_limit) (filtered : FiltersBy heads room k b K c) where
   f : Filtering (rule_at (heads_held s) s.room k) b K c
   f = (rw (held.0, held.1) at filtered).by ready.known (ap length eb ∙ block_length s.lists 0 variable_limit ready.lists (omega arith) (omega arith))
@@ -171,14 +169,14 @@ module _ (s : State) (k : ℕ) (ready : Followable s k) (heads : List Head) (roo
   closed_before : (j : ℕ) → j < length (heads_held s) → ¬ (j ≡ k) → ClosedBy (rule_at (heads_held s) s.room j) b
   closed_before j h d = rw eb (ready.others j h d)
 
-  pub stays : (M : List ℕ) → l ≡ sets s.lists (variable_limit * 0) M → M ≡ K → c ≡ 0 → Followed s (with_lists s l)
+  pub stays : (M : List ℕ) → l ≡ set s.lists 0 M → M ≡ K → c ≡ 0 → Followed s (with_lists s l)
   stays M el e z = record {
     left = K;
     largest = rw eb at (follows_none (heads_held s) s.room k ready.known closed_before f z);
     is = ap (with_lists s) (rw e at el);
   }
 
-  pub goes_on : (M N : List ℕ) → l ≡ sets s.lists (variable_limit * 0) M → M ≡ N → LargestIn (rules_at heads room) K N → Followed s (with_lists s l)
+  pub goes_on : (M N : List ℕ) → l ≡ set s.lists 0 M → M ≡ N → LargestIn (rules_at heads room) K N → Followed s (with_lists s l)
   goes_on M N el e m = record {
     left = N;
     largest = rw eb at (follows_some (heads_held s) s.room k ready.known closed_before f N (rw (held.0, held.1) at m));

@@ -11,7 +11,7 @@ use Rattle.meaning.specs.Standing.{Standing, Decision}
 use Rattle.meaning.specs.Lists.{Largest}
 use Rattle.meaning.proofs.Proper.{leaves_proper}
 use Rattle.state.specs.declared.State.{State}
-use Rattle.blocks.specs.Blocks.{block, block_places}
+use Rattle.blocks.specs.Blocks.{block, Whole}
 use Rattle.state.specs.Holds.{Holds, Reached}
 
 pub none_of : (ds : List Decision) → length ds ≡ 0 → ds ≡ []
@@ -29,7 +29,7 @@ pub record Sizes (s : State) : Type 0 where
   pub used : s.used ≤ room_limit
   pub objectives : s.objectives ≤ objective_limit
   pub depth : s.depth ≤ decision_limit
-  pub lists : length s.lists ≡ block_places
+  pub lists : Whole s.lists
 
 pub sizes : {s : State} → Reached s → Sizes s
 sizes (h, w, l, hold) =
@@ -40,5 +40,5 @@ sizes (h, w, l, hold) =
       used = omega (arith, hold.used, p.room);
       objectives = omega (arith, hold.objectives, p.objectives);
       depth = omega (arith, hold.depth, p.decisions);
-      lists = hold.lists.long;
+      lists = hold.lists.whole;
     }

@@ -1,14 +1,14 @@
 -- Demand 1: two results that a public contract allows are equal. Assumes nothing.
 use mathlib.Core.Path.{◌≡◌, sym, ap, ◌∙◌}
 use mathlib.Core.Logic.{inl, inr, by_cases}
-use mathlib.Core.List.{List}
-use Prim.Native.Nat.{ℕ, ◌+◌, ◌*◌, ◌/◌, ◌%◌, ◌<◌}
+use mathlib.Core.List.{List, []}
+use Prim.Native.Nat.{ℕ, ◌≤◌, ◌<◌}
 use lib.IntN.{ℤ}
 use native.Mathlib.Decide.{dec_lt, dec_le}
 use native.Mathlib.Omega.{arith}
 use lib.ListN.{length, get_or}
 use lib.Seq.{ext_get_or}
-use Rattle.meaning.specs.Limits.{variable_limit}
+use Rattle.meaning.specs.Limits.{variable_limit, decision_limit}
 use Rattle.meaning.specs.Standing.{Standing}
 use Rattle.meaning.specs.Calls.{Call, add_table, add_linear}
 use Rattle.meaning.proofs.Largest.{largest_unique}
@@ -19,20 +19,22 @@ use Rattle.refusals.specs.declared.Refusal.{Refusal}
 use Rattle.state.specs.Holds.{Holds, HoldsLists, Reached}
 use Rattle.refusals.proofs.Unique.{answer_unique}
 use Rattle.refusals.specs.Numbers.{number_of}
-use Rattle.state.specs.Promises.{Answers, AddsTable, AddsLinear, sort_said}
+use Rattle.filters.specs.declared.Head.{Head}
+use Rattle.filters.specs.declared.Kind.{Kind}
+use Rattle.state.specs.declared.AfterCall.{AfterCall}
+use Rattle.state.specs.Promises.{Answers, AddsTable, AddsLinear, IsAccepted, IsRefused, LendsRules, IsKindOf, sort_said}
 use Rattle.state.proofs.Holding.{current}
+use Rattle.blocks.specs.Blocks.{list_after}
 use Rattle.blocks.proofs.Reading.{block_at}
 
 -- ---- states
 
-lists_unique : {w : Standing} {l m : List ℕ} → HoldsLists l w → HoldsLists m w → l ≡ m
-lists_unique {w} {l} {m} a b = ext_get_or 0 l m (a.long ∙ sym b.long) λ i inside.
-    let k = i / variable_limit in
-    let x = i % variable_limit in
-    let e : variable_limit * k + x ≡ i = omega arith in
-    ap (λ (j : ℕ). get_or l j 0) (sym e) ∙ same k x (omega arith) ∙ ap (λ (j : ℕ). get_or m j 0) e
+lists_unique : {w : Standing} {l m : List (List ℕ)} → HoldsLists l w → HoldsLists m w → l ≡ m
+lists_unique {w} {l} {m} a b = ext_get_or [] l m (a.whole.deep ∙ sym b.whole.deep) λ k inside.
+    let few : k ≤ decision_limit = omega (arith, a.whole.deep) in
+    ext_get_or 0 (get_or l k []) (get_or m k []) (a.whole.wide k few ∙ sym (b.whole.wide k few)) λ x small. same k x (omega (arith, a.whole.wide k few))
   where
-    same : (k x : ℕ) → x < variable_limit → get_or l (variable_limit * k + x) 0 ≡ get_or m (variable_limit * k + x) 0
+    same : (k x : ℕ) → x < variable_limit → list_after l k x ≡ list_after m k x
     same k x small =
         by_cases (dec_le k (length w.decisions))
         (λ low. by_cases (dec_lt x (length w.declared))
@@ -77,3 +79,18 @@ module _ {s : State} (reached : Reached s) where
     pub add_linear_unique : (coefficients : List ℤ) (bound : ℤ) → AddsLinear s scope coefficients bound a t → AddsLinear s scope coefficients bound b u
         → (a ≡ b) × (t ≡ u)
     add_linear_unique coefficients bound = answers_unique (add_linear scope coefficients bound)
+
+-- ---- what the calls share
+
+pub accepted_unique : (s : State) (a b : AfterCall) → IsAccepted s a → IsAccepted s b → a ≡ b
+accepted_unique s a b (p, q) (r, t) i = record { answer = (p ∙ sym r) i; state = (q ∙ sym t) i }
+
+pub refused_unique : (refusal : Refusal) (s : State) (a b : AfterCall) → IsRefused refusal s a → IsRefused refusal s b → a ≡ b
+refused_unique refusal s a b (p, q) (r, t) i = record { answer = (p ∙ sym r) i; state = (q ∙ sym t) i }
+
+pub rules_held_unique : (s : State) (heads hs : List Head) (room cells : List ℕ) → LendsRules s heads room → LendsRules s hs cells
+    → (heads ≡ hs) × (room ≡ cells)
+rules_held_unique s heads hs room cells (p, q) (r, t) = (p ∙ sym r, q ∙ sym t)
+
+pub kind_unique : (sort : Sort) (a b : Kind) → IsKindOf sort a → IsKindOf sort b → a ≡ b
+kind_unique sort a b p q = p ∙ sym q

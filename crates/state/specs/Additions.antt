@@ -1,6 +1,5 @@
 -- What adding a rule is made of: its tests, its place behind the others, and the lists that follow.
-use Rattle.std.specs.Prelude.{◌≡◌, List, ℕ, ◌+◌, ◌*◌, ◌%◌, ◌≤◌, ◌<◌, ℤ, length}
-use Rattle.std.proofs.lemmas.List.Edits.{sets}
+use Rattle.std.specs.Prelude.{◌≡◌, List, ℕ, ◌+◌, ◌*◌, ◌%◌, ◌≤◌, ◌<◌, ℤ, length, set}
 use Rattle.meaning.specs.Limits.{variable_limit, rule_limit, room_limit, arity_limit, term_limit, bound_limit, objective_limit}
 use Rattle.meaning.specs.Rules.{Rule}
 use Rattle.meaning.specs.Standing.{Standing}
@@ -8,7 +7,7 @@ use Rattle.meaning.specs.Calls as Calls
 use Rattle.meaning.specs.Calls.{Call, add_table, add_linear, refusal, held, with_rule}
 use Rattle.meaning.specs.Histories.{Leaves}
 use Rattle.meaning.specs.Proper.{Around}
-use Rattle.blocks.specs.Blocks.{block, block_places}
+use Rattle.blocks.specs.Blocks.{block, Whole}
 use Rattle.checks.specs.declared.Counts.{Counts}
 use Rattle.state.specs.declared.State.{State}
 use Rattle.state.specs.declared.Sort.{Sort}
@@ -70,7 +69,7 @@ pub record LinearTested (n : Counts) (s : List ℕ) (cs : List ℤ) (b : ℤ) (n
 -- ---- the rule's place
 
 -- the state is laid out as w, with the lists l as they were
-pub record LaidOut (t : State) (w : Standing) (l : List ℕ) : Type 0 where
+pub record LaidOut (t : State) (w : Standing) (l : List (List ℕ)) : Type 0 where
   pub variables : t.variables ≡ length w.declared
   pub declared : t.declared ≡ padded variable_limit w.declared
   pub rules : t.rules ≡ length w.rules
@@ -90,7 +89,7 @@ Extends s r t = (h : List Call) (w : Standing) → Leaves h w → Holds s w → 
 -- the lists of depth 0 are closed by every rule but the k-th
 pub record Followable (s : State) (k : ℕ) : Type 0 where
   pub held : RulesOf (heads_held s) s.room
-  pub lists : length s.lists ≡ block_places
+  pub lists : Whole s.lists
   pub known : k < length (heads_held s)
   pub others : (j : ℕ) → j < length (heads_held s) → ¬ (j ≡ k) → ClosedBy (rule_at (heads_held s) s.room j) (block s.lists 0 variable_limit)
 
@@ -108,5 +107,5 @@ pub record Followed (s t : State) : Type 0 where
     objectives = s.objectives;
     objective = s.objective;
     depth = s.depth;
-    lists = sets s.lists 0 left;
+    lists = set s.lists 0 left;
   }

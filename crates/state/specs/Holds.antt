@@ -1,11 +1,11 @@
 -- What it is for a state to hold what stands. Every place past the counts is 0 or the head of no rule, so that two states that hold the same are equal.
-use Rattle.std.specs.Prelude.{◌≡◌, ◌⊎◌, List, ℕ, ◌+◌, ◌*◌, ◌≤◌, ◌<◌, length, get_or, take}
+use Rattle.std.specs.Prelude.{◌≡◌, ◌⊎◌, List, ℕ, ◌≤◌, ◌<◌, length, take}
 use Rattle.meaning.specs.Limits.{variable_limit, rule_limit, room_limit, objective_limit}
 use Rattle.meaning.specs.Standing.{Standing}
 use Rattle.meaning.specs.Lists.{Largest}
 use Rattle.meaning.specs.Calls.{Call, held, with_decisions}
 use Rattle.meaning.specs.Histories.{Leaves}
-use Rattle.blocks.specs.Blocks.{block, block_places}
+use Rattle.blocks.specs.Blocks.{block, list_after, Whole}
 use Rattle.state.specs.declared.State.{State}
 use Rattle.filters.specs.declared.Head.{Head}
 use Rattle.filters.specs.Layout.{no_head, heads_of, room_of, filled, padded}
@@ -18,10 +18,10 @@ heads_held s = take s.rules s.heads
 abbrev pub up_to : Standing → ℕ → Standing
 up_to w k = with_decisions w (take k w.decisions)
 
-pub record HoldsLists (lists : List ℕ) (w : Standing) : Type 0 where
-  pub long : length lists ≡ block_places
+pub record HoldsLists (lists : List (List ℕ)) (w : Standing) : Type 0 where
+  pub whole : Whole lists
   pub left : (k : ℕ) → k ≤ length w.decisions → Largest (up_to w k) (block lists k (length w.declared))
-  pub rest : (k x : ℕ) → x < variable_limit → (length w.declared ≤ x) ⊎ (length w.decisions < k) → get_or lists (variable_limit * k + x) 0 ≡ 0
+  pub rest : (k x : ℕ) → x < variable_limit → (length w.declared ≤ x) ⊎ (length w.decisions < k) → list_after lists k x ≡ 0
 
 pub record Holds (s : State) (w : Standing) : Type 0 where
   pub variables : s.variables ≡ length w.declared

@@ -1,9 +1,7 @@
 // The rota state, and adding rules to it.
 #![tactic(auto)]
 
-ghost use Rattle.std.specs.Prelude.{◌≡◌, Ok, Err};
-ghost use Rattle.state.specs.Holds.{heads_held};
-ghost use Rattle.state.specs.Additions.{kind_said};
+ghost use Rattle.state.specs.Promises.{IsAccepted, IsRefused, LendsRules, IsKindOf};
 
 mod adding;
 mod writing;
@@ -12,7 +10,7 @@ pub use adding::{add_linear, add_table};
 use filters::{Head, Kind, Rules};
 use refusals::Refusal;
 
-// What stands, laid out in flat arrays: counts, and zeros, or heads of no rule, past them.
+// What stands, laid out in arrays of fixed lengths: counts, and zeros, or heads of no rule, past them.
 #[derive(Clone, Copy)]
 pub struct State {
     pub variables: usize,
@@ -25,14 +23,14 @@ pub struct State {
     pub objectives: usize,
     pub objective: [u8; 16],
     pub depth: usize,
-    // 33 blocks of 32 sets: the values left after 0, 1, .. decisions
-    pub lists: [u64; 1056],
+    // the values left to each variable after 0, 1, .. 32 decisions
+    pub lists: [[u64; 32]; 33],
 }
 
 impl State {
     // The rules that stand.
     pub fn rules_held(&self) -> Rules<'_>
-        ensures { (result.heads.now ≡ heads_held self.now) × (result.room.now ≡ self.now.room) }
+        ensures { LendsRules self.now result.heads.now result.room.now }
     {
         Rules {
             heads: &self.heads[..self.rules.min(meaning::RULES)],
@@ -48,7 +46,7 @@ pub enum Sort {
 }
 
 impl From<Sort> for Kind {
-    ghost from_gives = { λ sort kind. kind ≡ kind_said sort };
+    ghost from_gives = { IsKindOf };
 
     fn from(sort: Sort) -> Kind {
         match sort {
@@ -68,7 +66,7 @@ pub struct AfterCall {
 impl AfterCall {
     // An accepted call, and what it leaves.
     pub fn accepted(state: State) -> AfterCall
-        ensures { (result.answer ≡ Ok tt) × (result.state ≡ state) }
+        ensures { IsAccepted state result }
     {
         AfterCall {
             answer: Ok(()),
@@ -78,7 +76,7 @@ impl AfterCall {
 
     // A refused call, and the state as it stood.
     pub fn refused(refusal: Refusal, state: State) -> AfterCall
-        ensures { (result.answer ≡ Err refusal) × (result.state ≡ state) }
+        ensures { IsRefused refusal state result }
     {
         AfterCall {
             answer: Err(refusal),

@@ -1,6 +1,6 @@
 -- Tuples that lie one after the other in a list of cells: searching for one, and for one that stands twice. Assumes nothing.
-use mathlib.Core.Path.{◌≡◌, refl, sym, ap, ◌∙◌}
-use mathlib.Core.Bool.{Bool, true, false}
+use mathlib.Core.Path.{◌≡◌, sym, ap, ◌∙◌}
+use mathlib.Core.Bool.{false}
 use mathlib.Core.List.{List, [], ◌∷◌}
 use Prim.Native.Nat.{ℕ, suc, ◌+◌, ◌-◌, ◌/◌, ◌≤◌, ◌<◌}
 use native.Mathlib.Nat.{div-eq_of_lt, div-eq-sub-div, div-zero}
@@ -9,7 +9,7 @@ use native.Mathlib.Omega.{arith}
 use lib.ListN.{length, take, drop, length-drop}
 use lib.Seq.{length-take-le, take_all}
 use Rattle.meaning.specs.Calls.{some, same, repeats, rows}
-use Rattle.meaning.proofs.Searching.{Search, found, passed}
+use Rattle.meaning.proofs.Searching.{Search}
 use Rattle.tuples.specs.Rows.{tuple_at, tuples_in}
 
 pub tuple_long : (n : ℕ) (cells : List ℕ) (a : ℕ) → a + n ≤ length cells → length (tuple_at n cells a) ≡ n
@@ -45,25 +45,6 @@ module _ (a : ℕ) (some_cells : 0 < a) where
       div-eq-sub-div some_cells h ∙ add-one ((length l - a) / a) ∙ ap (λ (n : ℕ). suc (n / a)) (sym (length-drop a l)) in
       ap (λ (n : ℕ). rows n a l) e
 
-  pub again_search : (u : List ℕ) → Search (λ l. some (same u) (tuples_in a l)) (λ l. same u (take a l)) a
-  unfolding some
-  again_search u = record { none = λ l h. ap (some (same u)) (tuples_none l h); more = λ l h. ap (some (same u)) (tuples_more l h) }
-
   pub twice_search : Search (λ l. repeats same (tuples_in a l)) (λ l. some (same (take a l)) (tuples_in a (drop a l))) a
   unfolding repeats
   twice_search = record { none = λ l h. ap (repeats same) (tuples_none l h); more = λ l h. ap (repeats same) (tuples_more l h) }
-
--- ---- one among the tuples from a place on
-
-module _ (u cells : List ℕ) (at : ℕ) (some_cells : 0 < length u) (fits : length u ≤ length cells - at) where
-  first_is : (b : Bool) → same u (take (at + length u - at) (drop at cells)) ≡ b → same u (take (length u) (drop at cells)) ≡ b
-  first_is b e = sym (ap (same u) (part_is (length u) cells at)) ∙ e
-
-  -- it stands there
-  pub listed_here : same u (take (at + length u - at) (drop at cells)) ≡ true → some (same u) (tuples_in (length u) (drop at cells)) ≡ true
-  listed_here e = sym (found (again_search (length u) some_cells u) cells at refl fits (first_is true e))
-
-  -- another one stands there
-  pub listed_on : same u (take (at + length u - at) (drop at cells)) ≡ false →
-      some (same u) (tuples_in (length u) (drop (at + length u) cells)) ≡ some (same u) (tuples_in (length u) (drop at cells))
-  listed_on e = passed (again_search (length u) some_cells u) cells at refl fits (first_is false e)

@@ -20,9 +20,6 @@ ones_here n w l =
 ones_none : (n w : ℕ) → n ≤ w → Lacks (2 ^ n - 1) w
 ones_none n w l = let p = pow_pos n in bit_high n {m = 2 ^ n - 1} w (omega arith) l
 
-pub shl_pos : (s : ℕ) → s < 64 → 1 ≤ (1 * 2 ^ s) % 2 ^ 64
-shl_pos s l = rw (shl_one s l) (pow_pos s)
-
 pub first_ones : (s : ℕ) → s < 64 → First s ((1 * 2 ^ s) % 2 ^ 64 - 1)
 first_ones s l = rw (shl_one s l) (record { here = λ w h k. ones_here s w h; none = ones_none s })
 

@@ -72,9 +72,6 @@ bit_top m j lo hi =
     let b : 1 ≤ m / 2 ^ j = (le-div_iff_mul-le (pow_pos j)).1 (omega arith) in
     omega arith
 
-pub leading_small : (m : ℕ) → m < 2 ^ 64 → 0 < m → count_leading_zeros 64 m ≤ 63
-leading_small m h p = let (j, e, lo, hi) = leading_top 64 m p h in omega arith
-
 pub highest_leading : (m : ℕ) → m < 2 ^ 64 → 0 < m → Highest m (63 - count_leading_zeros 64 m)
 highest_leading m h p =
     let (j, e, lo, hi) = leading_top 64 m p h in
@@ -91,14 +88,3 @@ highest_empty m e = record {
 }
 
 -- ---- the answer 64 and the empty set, for either end
-
-pub limit_empty : (m r : ℕ) → (0 < m → r < 64) → r ≡ 64 → m ≡ 0
-limit_empty zero r some e = refl
-limit_empty (suc m) r some e = let l = some (omega arith) in absurd (omega arith)
-
-pub empty_limit : (r : ℕ) → r ≤ 64 → (r < 64 → Has 0 r) → r ≡ 64
-empty_limit r small here = go (dec_lt r 64)
-  where
-    go : Dec (r < 64) → r ≡ 64
-    go (yes l) = let h = here l in let z = zero_bit r in absurd (omega arith)
-    go (no f) = omega arith

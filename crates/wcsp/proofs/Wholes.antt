@@ -43,13 +43,13 @@ module _ (text : List ℕ) where
     all_inside sizes long = omega (arith, long, within.1)
 
     abbrev SizesCome : Step (List ℕ) → Type 0
-    SizesCome step = Comes (several text (size_tests head.what.largest) n head.after) (λ ss k. (ss ≡ take n k) × Under 65 k) step
+    SizesCome step = Comes (several text (size_tests head.what.largest) n head.after) (λ ss k. (ss ≡ take n k) × Under 65 (take n k)) step
 
     -- the sizes are read as the first line says
-    sizes_came : {step : Step (List ℕ)} (h : Header) → Says h head.what → SizesCome step → Comes (several text (size_tests h.largest) h.variables head.after) (λ ss k. (ss ≡ take n k) × Under 65 k) step
+    sizes_came : {step : Step (List ℕ)} (h : Header) → Says h head.what → SizesCome step → Comes (several text (size_tests h.largest) h.variables head.after) (λ ss k. (ss ≡ take n k) × Under 65 (take n k)) step
     sizes_came {step} h (x, y, z) c2 =
-        subst⁻¹ (λ (k : ℕ). Comes (several text (size_tests k) h.variables head.after) (λ ss l. (ss ≡ take n l) × Under 65 l) step) y
-        (subst⁻¹ (λ (k : ℕ). Comes (several text (size_tests head.what.largest) k head.after) (λ ss l. (ss ≡ take n l) × Under 65 l) step) x c2)
+        subst⁻¹ (λ (k : ℕ). Comes (several text (size_tests k) h.variables head.after) (λ ss l. (ss ≡ take n l) × Under 65 (take n l)) step) y
+        (subst⁻¹ (λ (k : ℕ). Comes (several text (size_tests head.what.largest) k head.after) (λ ss l. (ss ≡ take n l) × Under 65 (take n l)) step) x c2)
 
     module _ {sizes : Read (List ℕ)} (c2 : SizesCome (Ok sizes)) where
       abbrev all : List ℕ

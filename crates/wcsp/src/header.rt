@@ -6,9 +6,7 @@ ghost use Rattle.wcsp.specs.Steps.{Says};
 use meaning::{RULES, VARIABLES};
 use reading::{Read, Step, any_number, number_within, skip_name};
 use refusals::Refusal;
-
-// A value is below it.
-const VALUES: usize = 64;
+use values::VALUES;
 
 // What the first line says.
 #[derive(Clone, Copy, Debug, PartialEq, Eq)]

@@ -14,17 +14,19 @@ use refusals::Refusal;
 use text::skip_blanks;
 use tuples::{KEYS, is_listed, key_of};
 
-// What is known of a table before its tuples: its variables, the sizes of all variables, and the default cost.
+// What is known of a table before its tuples: the sizes of all variables, its own variables, at least one, and the default cost.
 #[derive(Clone, Copy)]
 pub(crate) struct Heading<'a> {
     pub(crate) sizes: &'a [u8],
     pub(crate) scope: &'a [u8],
     pub(crate) default: usize,
+    ghost known: { Known (length sizes.now) scope.now },
+    ghost not_empty: { 0 < length scope.now },
 }
 
 // One tuple, into its cells: each value below its variable's size.
 fn read_tuple(text: &[u8], at: usize, heading: Heading, tuple: &mut [u8]) -> Step<()>
-    requires { Known (length heading.sizes.now) heading.scope.now × (length tuple.old ≡ length heading.scope.now) }
+    requires { length tuple.old ≡ length heading.scope.now }
     ensures { Comes (several text.now (value_tests heading.entry.sizes.now heading.entry.scope.now) (length heading.entry.scope.now) at) (λ values v. values ≡ tuple.new) result }
 {
     let mut place = at;
@@ -42,7 +44,7 @@ fn read_tuple(text: &[u8], at: usize, heading: Heading, tuple: &mut [u8]) -> Ste
 
 // Whether the tuple behind the first `count` is one of them, with marks at their keys; its own key is marked too.
 fn listed_by_key(cells: &[u8], count: usize, arity: usize, marked: &mut [bool; KEYS]) -> bool
-    requires arity_bound { (count * arity + arity ≤ room_limit) × (length cells.now ≡ room_limit) × (0 < arity) }
+    requires arity_bound { (count * arity + arity ≤ length cells.now) × (0 < arity) }
     requires keyed { Keyed marked.old (rows count arity cells.now) }
     ensures value { result ≡ some (same (take arity (drop (count * arity) cells.now))) (rows count arity cells.now) }
     ensures keyed_2 { Keyed marked.new (rows (count + 1) arity cells.now) }
@@ -66,8 +68,7 @@ fn next_tuple(
     count: usize,
     marked: &mut [bool; KEYS],
 ) -> Step<()>
-    requires known { Known (length heading.sizes.now) heading.scope.now × (0 < length heading.scope.now) }
-    requires room { (count * length heading.scope.now + length heading.scope.now ≤ room_limit) × (length cells.old ≡ room_limit) }
+    requires room { count * length heading.scope.now + length heading.scope.now ≤ room_limit }
     requires keyed { Keyed marked.old (rows count (length heading.scope.now) cells.old) }
     ensures next_tuple { NextTuple text.now heading.entry.sizes.now heading.entry.scope.now heading.entry.default at count cells.old cells.new result }
     ensures keyed_on { IfOk result (λ _. Keyed marked.new (rows (count + 1) (length heading.entry.scope.now) cells.new)) }
@@ -96,8 +97,8 @@ pub(crate) fn read_tuples(
     count: usize,
     cells: &mut [u8; ROOM],
 ) -> Step<()>
-    requires { Known (length heading.sizes.now) heading.scope.now × (count * length heading.scope.now ≤ room_limit) × (length cells.old ≡ room_limit) × (0 < length heading.scope.now) }
-    ensures { (length cells.new ≡ room_limit) × Comes (times (tuple text.now heading.entry.sizes.now heading.entry.scope.now heading.entry.default) count [] at) (λ ts v. Filled (length heading.entry.scope.now) count ts cells.new) result }
+    requires { count * length heading.scope.now ≤ room_limit }
+    ensures { Comes (times (tuple text.now heading.entry.sizes.now heading.entry.scope.now heading.entry.default) count [] at) (λ ts v. Filled (length heading.entry.scope.now) count ts cells.new) result }
 {
     let mut marked = [false; KEYS];
     let mut place = at;

@@ -13,12 +13,12 @@ use refusals::Refusal;
 // The sizes of n variables, each from 1 to the largest, in the first places.
 pub(crate) fn read_sizes(text: &[u8], at: usize, largest: usize, n: usize) -> Step<[u8; VARIABLES]>
     requires { (largest ≤ value_limit) × (n ≤ variable_limit) }
-    ensures { Comes (several text.now (size_tests largest) n at) (λ ss k. (ss ≡ take n k) × Under 65 k) result }
+    ensures { Comes (several text.now (size_tests largest) n at) (λ ss k. (ss ≡ take n k) × Under 65 (take n k)) result }
 {
     let mut sizes = [0u8; VARIABLES];
     let mut place = at;
-    for i in 0..n {
-        let size = number_within(
+    for size in sizes[..n].iter_mut() {
+        let said = number_within(
             text,
             place,
             1,
@@ -26,8 +26,8 @@ pub(crate) fn read_sizes(text: &[u8], at: usize, largest: usize, n: usize) -> St
             largest,
             Refusal::OutOfRange,
         )?;
-        sizes[i] = size.what as u8;
-        place = size.after;
+        *size = said.what as u8;
+        place = said.after;
     }
     Ok(Read {
         what: sizes,

@@ -46,8 +46,8 @@ fn read_table(
     used: usize,
     cells: &mut [u8; ROOM],
 ) -> Step<Table>
-    requires { (length sizes.now ≤ variable_limit) × (used ≤ room_limit) × (length cells.old ≡ room_limit) }
-    ensures { (length cells.new ≡ room_limit) × NextTable text.now sizes.now used at cells.new result }
+    requires { (length sizes.now ≤ variable_limit) × (used ≤ room_limit) }
+    ensures { NextTable text.now sizes.now used at cells.new result }
 {
     let arity = number_within(text, at, 1, Refusal::WrongLength, 8, Refusal::WrongLength)?;
     let scope = read_scope(text, arity.after, sizes.len(), arity.what)?;

@@ -1,10 +1,6 @@
 -- `decide::narrowed` meets its contract.
-use mathlib.Core.Path.{◌∙◌}
 use mathlib.Core.Logic.{⊎_elim}
-use Prim.Native.Nat.{◌+◌}
-use native.Mathlib.Omega.{arith}
 use Rattle.blocks.proofs.Reading.{copied_is}
-use Rattle.blocks.proofs.Writing.{with_block_lem}
 use Rattle.state.proofs.Holding.{sizes}
 use Rattle.state.proofs.Reading.{reached_rules}
 use Rattle.decide.proofs.Decisions.{narrows_by, nothing_removed}
@@ -21,7 +17,6 @@ returns c =
     let s = c.args.s in
     let z = sizes c.requires.reached in
     let eb = copied_is z.lists z.depth copied.ensures in
-    let put = c.put_lists.ensures ∙ with_block_lem s.lists (s.depth + 1) c.if-found-kept.left (omega arith) in
     let held = c.rules_held-rules.ensures in
-    let narrows = narrows_by s c.args.x c.args.kept copied.result c.if-found-kept.left c.put_lists.new.lists c.requires.x_lt_variables.0 c.requires.x_lt_variables.1 eb put in
+    let narrows = narrows_by s c.args.x c.args.kept copied.result c.if-found-kept.left c.put_lists.new.lists c.requires.x_lt_variables.0 c.requires.x_lt_variables.1 eb c.put_lists.ensures in
     ⊎_elim (λ p. narrows (rw p.left-is (rw (held.0, held.1) at p.settled-left.ensures))) (λ p. narrows (rw p.left-is (nothing_removed c.requires.reached c.args.x c.args.kept eb p.if-found-kept.false))) c.if-found-kept.branch-raw

@@ -1,14 +1,13 @@
 -- `lines::write_refused` meets its contract.
-use native.Mathlib.Omega.{arith}
+use mathlib.Core.Path.{sym}
+use borrow.Author.Rules.{rules}
 use Rattle.lines.specs.Lines.{refused_line}
-use Rattle.lines.proofs.Digits.{byte_short, offset_short}
-use Rattle.lines.proofs.Putting.{put_both, written}
+use Rattle.lines.proofs.Putting.{puts_both, wrote}
 use Rattle.lines.proofs.write_refused.Goals as goal
 
 pub returns : goal.returns
 unfolding refused_line
 returns c =
-    let short = byte_short c.args.number c.ranges.number.fits in
-    let less = offset_short c.args.at c.ranges.at.fits in
-    written (omega arith)
-    (put_both (put_both (put_both (put_both c.put_word-end.ensures c.put_field-end.ensures) c.put_word-end-2.ensures) c.put_field-end-2.ensures) c.put_byte.ensures)
+    rw (sym c.from.ensures)
+    (wrote (search rules)
+    (puts_both (puts_both (puts_both (puts_both c.word.ensures c.number.ensures) c.word-2.ensures) c.number-2.ensures) c.byte.ensures))

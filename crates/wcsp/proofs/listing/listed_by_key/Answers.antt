@@ -1,7 +1,6 @@
 -- `wcsp::listing::listed_by_key` meets its contract.
 use mathlib.Core.Path.{sym, ap, ◌∙◌}
 use Prim.Native.Nat.{◌*◌}
-use native.Mathlib.Omega.{arith}
 use Rattle.tuples.specs.Keys.{key_from}
 use Rattle.tuples.proofs.Rows.{part_is}
 use Rattle.wcsp.proofs.Keying.{listed_before, marked_before, marked_now, not_listed}
@@ -12,7 +11,7 @@ returns-then-marked-key c =
     let a = c.args in
     let p = c.requires in
     let key = c.key_of-key in
-    let key_is = key.ensures.0 ∙ ap (key_from 0) (part_is a.arity a.cells.now (a.count * a.arity)) in record { value = c.is_listed.ensures ∙ listed_before a.arity a.count a.cells.now p.arity_bound.2 (omega (arith, p.arity_bound.0, p.arity_bound.1)); keyed_2 = marked_before a.marked.now a.arity a.count a.cells.now p.keyed key.result key_is c.if-marked-key.true }
+    let key_is = key.ensures.0 ∙ ap (key_from 0) (part_is a.arity a.cells.now (a.count * a.arity)) in record { value = c.is_listed.ensures ∙ listed_before a.arity a.count a.cells.now p.arity_bound.1 p.arity_bound.0; keyed_2 = marked_before a.marked.now a.arity a.count a.cells.now p.keyed key.result key_is c.if-marked-key.true }
 
 pub returns : goal.returns
 returns c =

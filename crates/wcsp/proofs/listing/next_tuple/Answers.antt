@@ -10,18 +10,18 @@ listed_by_key-requires-clause-keyed c =
     let a = c.args in
     let arity = length a.heading.scope.now in
     let p = c.requires in
-    keyed_behind arity a.count a.cells.now _ (omega (arith, p.room.0, p.room.1)) (part_behind (a.count * arity) arity a.cells.now _ (omega (arith, p.room.0, p.room.1)) (search rules)) p.keyed
+    keyed_behind arity a.count a.cells.now _ (omega (arith, p.room, c.told-cells)) (part_behind (a.count * arity) arity a.cells.now _ (omega (arith, p.room, c.told-cells)) (search rules)) p.keyed
 
 pub returns-then-says_same-clause-next_tuple : goal.returns-then-says_same-clause-next_tuple
 returns-then-says_same-clause-next_tuple c =
     let a = c.args in
     let arity = length a.heading.scope.now in
     let p = c.requires.room in
-    twice a.text.now a.heading.sizes.now a.heading.scope.now a.heading.default a.at a.count a.cells.now _ c.read_tuple.new.tuple (part_behind (a.count * arity) arity a.cells.now _ (omega (arith, p.0, p.1)) (search rules)) (part_written (a.count * arity) arity a.cells.now _ (omega (arith, p.0, p.1)) (search rules)) c.in_ok-tuple.ensures c.in_ok-cost.ensures (omega (arith, p.0, p.1)) _ c.skip_blanks.ensures (search rules)
+    twice a.text.now a.heading.sizes.now a.heading.scope.now a.heading.default a.at a.count a.cells.now _ c.read_tuple.new.tuple (part_behind (a.count * arity) arity a.cells.now _ (omega (arith, p, c.told-cells)) (search rules)) (part_written (a.count * arity) arity a.cells.now _ (omega (arith, p, c.told-cells)) (search rules)) c.in_ok-tuple.ensures c.in_ok-cost.ensures (omega (arith, p, c.told-cells)) _ c.skip_blanks.ensures (search rules)
 
 pub returns-clause-next_tuple : goal.returns-clause-next_tuple
 returns-clause-next_tuple c =
     let a = c.args in
     let arity = length a.heading.scope.now in
     let p = c.requires.room in
-    fresh a.text.now a.heading.sizes.now a.heading.scope.now a.heading.default a.at a.count a.cells.now _ c.read_tuple.new.tuple (part_behind (a.count * arity) arity a.cells.now _ (omega (arith, p.0, p.1)) (search rules)) (part_written (a.count * arity) arity a.cells.now _ (omega (arith, p.0, p.1)) (search rules)) c.in_ok-tuple.ensures c.in_ok-cost.ensures (omega (arith, p.0, p.1)) (search rules) _
+    fresh a.text.now a.heading.sizes.now a.heading.scope.now a.heading.default a.at a.count a.cells.now _ c.read_tuple.new.tuple (part_behind (a.count * arity) arity a.cells.now _ (omega (arith, p, c.told-cells)) (search rules)) (part_written (a.count * arity) arity a.cells.now _ (omega (arith, p, c.told-cells)) (search rules)) c.in_ok-tuple.ensures c.in_ok-cost.ensures (omega (arith, p, c.told-cells)) (search rules) _

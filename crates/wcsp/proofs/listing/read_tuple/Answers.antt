@@ -32,5 +32,5 @@ loop-j-preserved c =
 pub returns : goal.returns
 returns c =
     let l = c.loop-j in
-    let all : l.j ≡ length l.tuple = omega (arith, c.requires.1, c.loop-j-test.false) in
+    let all : l.j ≡ length l.tuple = omega (arith, c.requires, c.loop-j-test.false) in
     all_read _ l.invariant _ c.loop-j-test.false (ap (λ (k : ℕ). take k l.tuple) all ∙ take-length l.tuple)

@@ -1,5 +1,5 @@
 -- `wcsp::tables::read_table` meets its contract. Each part goes on from the one before it.
-use Rattle.std.proofs.Common.{◌≡◌, arith, rules, sym, length, take}
+use Rattle.std.proofs.Common.{arith, rules, sym}
 use lib.Seq.{length-take-le}
 use Rattle.wcsp.proofs.Tabling.{arity_bounds, arity_inside, known, fits, the_table}
 use Rattle.wcsp.proofs.tables.read_table.Goals as goal
@@ -18,15 +18,19 @@ slice_bounds-heading-end c =
     let a = c.args in
     sym (length-take-le _ _ (arity_inside a.text.now a.sizes.now a.used a.at c.in_ok-arity.ensures c.in_ok-scope.scope.what (search rules)))
 
+pub invariant_of-heading : goal.invariant_of-heading
+invariant_of-heading c =
+    let a = c.args in
+    let so_many = length-take-le _ _ (arity_inside a.text.now a.sizes.now a.used a.at c.in_ok-arity.ensures c.in_ok-scope.scope.what (search rules)) in
+    record { known = known a.text.now a.sizes.now a.used a.at c.in_ok-arity.ensures c.in_ok-scope.ensures; not_empty = omega (arith, so_many, (arity_bounds a.text.now a.sizes.now a.used a.at c.in_ok-arity.ensures).0) }
+
 pub read_tuples-requires : goal.read_tuples-requires
 read_tuples-requires c =
     let a = c.args in
-    let arity = c.in_ok-arity.arity.what in
     let scope = c.in_ok-scope.scope.what in
-    let b = arity_bounds a.text.now a.sizes.now a.used a.at c.in_ok-arity.ensures in
-    let so_many : length (take arity scope) ≡ arity = length-take-le arity scope (arity_inside a.text.now a.sizes.now a.used a.at c.in_ok-arity.ensures scope (search rules)) in
+    let so_many = length-take-le c.in_ok-arity.arity.what scope (arity_inside a.text.now a.sizes.now a.used a.at c.in_ok-arity.ensures scope (search rules)) in
     let room = fits a.text.now a.sizes.now a.used a.at c.in_ok-arity.ensures c.in_ok-scope.ensures c.in_ok-default.ensures c.in_ok-count.ensures in
-    (known a.text.now a.sizes.now a.used a.at c.in_ok-arity.ensures c.in_ok-scope.ensures, rw so_many (omega (arith, room)), c.requires.2, omega (arith, so_many, b.0))
+    rw so_many (omega (arith, room))
 
 pub overflow_mul-result : goal.overflow_mul-result
 overflow_mul-result c =
@@ -36,4 +40,4 @@ overflow_mul-result c =
 pub returns : goal.returns
 returns c =
     let a = c.args in
-    (c.read_tuples.ensures.0, the_table a.text.now a.sizes.now a.used a.at c.in_ok-arity.ensures c.in_ok-scope.ensures c.in_ok-default.ensures c.in_ok-count.ensures _ c.in_ok-listed.ensures.1 _ c.sort_by.ensures (search rules))
+    the_table a.text.now a.sizes.now a.used a.at c.in_ok-arity.ensures c.in_ok-scope.ensures c.in_ok-default.ensures c.in_ok-count.ensures _ c.in_ok-listed.ensures _ c.sort_by.ensures (search rules)
