@@ -122,7 +122,9 @@ pub(crate) fn linear_call(seed: Seed, n: u8) -> Call {
     let scope = scope_of(seed, n, arity);
     let mut coefficients = coefficients_of(seed, arity);
     if seed.fault(63, 40) {
-        coefficients.push(0);
+        // where there is no term, the one too many may be the large one
+        let heavy = arity == 0 && seed.fault(83, 30);
+        coefficients.push(if heavy { 1001 } else { 0 });
     }
     let bound = signed(seed.chance(80, 8), bound_of(seed));
     Call::Linear(Linear {

@@ -7,31 +7,31 @@ ghost use Rattle.state.specs.Holds.{Reached};
 use refusals::Refusal;
 use state::State;
 
-fn letter(answer: Result<(), Refusal>) -> char {
+fn letter(answer: Result<(), Refusal>) -> u8 {
     match answer {
-        Ok(()) => 'y',
-        Err(Refusal::TooManyDecisions) => 'n',
-        Err(_) => '?',
+        Ok(()) => b'y',
+        Err(Refusal::TooManyDecisions) => b'n',
+        Err(_) => b'?',
     }
 }
 
-// Bans a value of the variable 0, and writes the ban's letter.
-fn ban(rt: &impl Print, state: &mut State, v: u8)
+// Bans a value of the variable 0, and answers with the ban's letter.
+fn ban(state: &mut State, v: u8) -> u8
     requires { Reached state.old }
     ensures { Reached state.new }
 {
     let after = decide::ban(*state, 0, v);
     *state = after.state;
-    let letter = letter(after.answer);
-    let _ = print!(rt; "{letter}");
+    letter(after.answer)
 }
 
 fn main(rt: HostRuntime) {
     let mut state = setup::add_variable(setup::new(), u64::MAX).state;
+    let mut line = [b'\n'; 35];
     for v in 0..33 {
-        ban(&rt, &mut state, v);
+        line[usize::from(v)] = ban(&mut state, v);
     }
     state = decide::take_back(state, 31).state;
-    ban(&rt, &mut state, 63);
-    let _ = println!(rt);
+    line[33] = ban(&mut state, 63);
+    let _ = rt.write_all(&line);
 }

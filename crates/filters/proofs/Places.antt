@@ -4,19 +4,19 @@ use mathlib.Core.Path.{◌≡◌, refl, sym, ap, ap₂, ◌∙◌}
 use mathlib.Core.Logic.{by_cases}
 use mathlib.Core.Bool.{Bool, true, false, ◌&&◌, and-false}
 use mathlib.Core.List.{List, [], ◌∷◌, head-eq_of_cons-eq, tail-eq_of_cons-eq}
-use Prim.Native.Nat.{ℕ, zero, suc, ◌*◌, ◌<◌}
+use Prim.Native.Nat.{ℕ, zero, suc, ◌*◌, ◌≤◌, ◌<◌}
 use native.Mathlib.Decide.{dec_lt}
 use native.Mathlib.Omega.{arith}
 use lib.Dec.{eqb}
 use borrow.Author.Tests.{eq-eqb, ne_eqb}
 use lib.ListN.{length, get_or, take, length-append, length-map, get_or-append}
-use lib.Seq.{ext_get_or, get_or_at, get_or-take}
+use lib.Seq.{ext_get_or, get_or_at, get_or-take, length-take-le}
 use Rattle.meaning.specs.Values.{bit, size, Has, Lacks}
 use Rattle.meaning.specs.Rules.{at, values_at}
 use Rattle.meaning.proofs.Counting.{count_ext}
 use Rattle.meaning.proofs.Listed.{has, live, live_with, product, product_but}
 use Rattle.meaning.proofs.Assignments.{values_at_lem}
-use Rattle.filters.specs.Tables.{Gathered, places}
+use Rattle.filters.specs.Tables.{Gathered, Products, ProductsOf, places}
 
 -- ---- the places
 
@@ -102,3 +102,11 @@ module _ (masks t : List ℕ) (n : ℕ) where
 -- as many masks as there are variables
 pub gathered_front : (L s masks : List ℕ) → Gathered L s (length s) masks → Gathered L s (length s) (take (length s) masks)
 gathered_front L s masks g j h = get_or-take (length s) masks j 0 h ∙ g j h
+
+-- as many products as there are masks
+pub products_front : (masks ways : List ℕ) (n : ℕ) → length masks ≡ n → n ≤ length ways → Products masks (length masks) ways → ProductsOf masks (take n ways)
+products_front masks ways n e h products =
+    record {
+      long = length-take-le n ways h ∙ sym e;
+      each = λ j k. get_or-take n ways j 0 (omega (arith, e, k)) ∙ products j k;
+    }

@@ -9,9 +9,8 @@ use native.Mathlib.Omega.{arith}
 use borrow.Author.Tests.{lt-ltb, le-ltb}
 use lib.Dec.{T, eqb, ltb, eqb→eq}
 use lib.ListN.{length, get_or}
-use Rattle.std.specs.List.{list_all, range_with_len}
+use Rattle.std.specs.List.{list_all}
 use Rattle.std.proofs.lemmas.List.Folds.{list_all_at}
-use Rattle.std.proofs.lemmas.List.FromFn.{length-range_with_len, get_or-range_with_len}
 use Rattle.meaning.specs.Values.{Has}
 use Rattle.meaning.specs.Rules.{allowed, forbidden}
 use Rattle.meaning.specs.Lists.{Left, Supported}
@@ -23,7 +22,7 @@ use Rattle.meaning.proofs.Listed.{live, live_with, product_but, Words}
 use Rattle.meaning.proofs.Tables.{allowed_support, forbidden_support}
 use Rattle.filters.specs.Filter.{Filtering}
 use Rattle.filters.specs.Sifting.{Sifted}
-use Rattle.filters.specs.Tables.{Gathered, Marked, Counted, Fewer, cell, places}
+use Rattle.filters.specs.Tables.{Gathered, Marked, ProductsOf, Counted, Fewer, cell, places}
 use Rattle.filters.proofs.Places.{live_with_places, product_but_places}
 use Rattle.filters.proofs.Sifting.{all_sifted, sifted_filtering}
 
@@ -46,12 +45,13 @@ counts_one : (a b : ℕ) → (one (ltb a b) ≡ 1) ↔ (a < b)
 counts_one a b =
     by_cases (dec_lt a b) (λ h. (λ e. h, λ k. ap one (lt-ltb a b h))) (λ d. (λ e. absurd (let z = ap one (le-ltb a b (omega arith)) in omega arith), λ k. absurd (d k)))
 
--- a number that is below each of n numbers
-pub all_above : (k n : ℕ) (f : ℕ → ℕ) → list_all (λ j. ltb k (f j)) (range_with_len 0 n) ≡ true → (j : ℕ) → j < n → k < f j
-all_above k n f e j h =
-    by_cases (dec_lt k (f j)) (λ l. l) λ d.
-    let at : get_or (range_with_len 0 n) j 0 ≡ j = omega (arith, get_or-range_with_len 0 n j 0 h) in
-    absurd (true≢false (sym e ∙ list_all_at (λ j. ltb k (f j)) (range_with_len 0 n) j 0 (omega (arith, length-range_with_len 0 n)) (rw at (le-ltb k (f j) (omega arith)))))
+-- fewer tuples than each of the products
+pub all_above : (k : ℕ) (masks ways : List ℕ) → ProductsOf masks ways → list_all (λ way. ltb k way) ways ≡ true → (j : ℕ) → j < length masks
+    → k < product_but masks (places (length masks)) j
+all_above k masks ways products e j h =
+    let at = products.each j h in
+    by_cases (dec_lt k (get_or ways j 0)) (λ l. omega (arith, at, l))
+    (λ d. absurd (true≢false (sym e ∙ list_all_at (λ way. ltb k way) ways j 0 (omega (arith, products.long, h)) (le-ltb k (get_or ways j 0) (omega arith)))))
 
 module _ (L s masks : List ℕ) (gathered : Gathered L s (length s) masks) (once : Distinct s) (ts : List (List ℕ)) where
   -- ---- allowed

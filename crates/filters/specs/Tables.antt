@@ -47,6 +47,15 @@ Marked masks arity ts marked = (j : ℕ) → j < arity → (v : ℕ) → bit (ge
 
 -- ---- forbidden tuples
 
+-- for each of the first n places the number of ways to choose values at the others
+abbrev pub Products : List ℕ → ℕ → List ℕ → Type 0
+Products masks n ways = (j : ℕ) → j < n → get_or ways j 0 ≡ product_but masks (places n) j
+
+-- so many of them as there are masks
+pub record ProductsOf (masks ways : List ℕ) : Type 0 where
+  pub long : length ways ≡ length masks
+  pub each : Products masks (length masks) ways
+
 -- where the count of the value v at the place j stands
 abbrev pub cell : ℕ → ℕ → ℕ
 cell j v = j * value_limit + v

@@ -32,6 +32,8 @@ fn marks(cells: &[u16], masks: &[u64]) -> [u64; 8]
 }
 
 // Drops from the lists of the variables what no allowed tuple supports. The answer is the set of the variables whose lists change.
+// It is no part of its caller, so that the place of its loops does not hang on the other filters.
+#[inline(never)]
 pub(crate) fn filter(scope: &[u16], cells: &[u16], lists: &mut [u64]) -> u64
     requires { Ready (rule_of allow scope.now cells.now) lists.old }
     ensures { Filtering (rule_of allow scope.now cells.now) lists.old lists.new result }

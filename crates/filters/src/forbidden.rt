@@ -1,11 +1,11 @@
 // Filtering by a table of forbidden tuples: a value goes where every way to choose the others is among them.
 ghost use Rattle.std.specs.Prelude.{ℕ, ◌+◌, ◌*◌, ◌<◌, ◌≤◌, ◌≡◌, ltb, length, get_or};
-ghost use Rattle.std.specs.List.{list_all, range_with_len};
+ghost use Rattle.std.specs.List.{list_all};
 ghost use Rattle.meaning.specs.Limits.{value_limit, arity_limit, room_limit};
 ghost use Rattle.meaning.specs.Calls.{forbid, rule_of};
 ghost use Rattle.meaning.proofs.Listed.{product_but};
 ghost use Rattle.filters.specs.Filter.{Filtering, Ready};
-ghost use Rattle.filters.specs.Tables.{Below, Tuples, pieces, Tallying, Counted, Blank, FewerAt, Fewer, LeftBy, cell, places};
+ghost use Rattle.filters.specs.Tables.{Below, Tuples, pieces, Products, ProductsOf, Tallying, Counted, Blank, FewerAt, Fewer, LeftBy, cell, places};
 
 use crate::tables::{gather, is_live, keep_each};
 use values::VALUES;
@@ -24,12 +24,23 @@ fn ways_but(masks: &[u64], j: usize) -> usize
     ways
 }
 
-// Whether the tuples are too few to drop anything.
-fn too_few(tuples: usize, masks: &[u64]) -> bool
+// The same for each place, in the first ones.
+fn ways_of(masks: &[u64]) -> [usize; 8]
     requires { length masks.now ≤ arity_limit }
-    ensures { result ≡ list_all (λ j. ltb tuples (product_but masks.now (places (length masks.now)) j)) (range_with_len 0 (length masks.now)) }
+    ensures { Products masks.now (length masks.now) result }
 {
-    (0..masks.len()).all(|j| tuples < ways_but(masks, j))
+    let mut ways = [0usize; 8];
+    for j in 0..masks.len() {
+        ways[j] = ways_but(masks, j);
+    }
+    ways
+}
+
+// Whether the tuples are too few to drop anything.
+fn too_few(tuples: usize, ways: &[usize]) -> bool
+    ensures { result ≡ list_all (λ way. ltb tuples way) ways.now }
+{
+    ways.iter().all(|way| tuples < *way)
 }
 
 // Counts each value of the tuple at its place.
@@ -74,37 +85,40 @@ fn fewer(m: u64, counts: &[u16], j: usize, limit: usize) -> u64
 }
 
 // For each place the values of its mask that a way to choose the others supports.
-fn supported(masks: &[u64], counts: &[u16]) -> [u64; 8]
-    requires { (length masks.now ≤ arity_limit) × (length masks.now * value_limit ≤ length counts.now) }
+fn supported(masks: &[u64], ways: &[usize], counts: &[u16]) -> [u64; 8]
+    requires counted { (length masks.now ≤ arity_limit) × (length masks.now * value_limit ≤ length counts.now) }
+    requires products { ProductsOf masks.now ways.now }
     ensures { Fewer masks.now (length masks.now) counts.now result }
 {
     let mut left = [0u64; 8];
     for (j, mask) in masks.iter().enumerate() {
-        left[j] = fewer(*mask, counts, j, ways_but(masks, j));
+        left[j] = fewer(*mask, counts, j, ways[j]);
     }
     left
 }
 
 // For each place the values left to it, by counts that are 0 at first.
-fn left_by(cells: &[u16], masks: &[u64], counts: &mut [u16]) -> [u64; 8]
-    requires { Tuples (length masks.now) (pieces (length masks.now) cells.now) × (length cells.now ≤ room_limit) × Blank (length masks.now) counts.old }
+fn left_by(cells: &[u16], masks: &[u64], ways: &[usize], counts: &mut [u16]) -> [u64; 8]
+    requires tuples { Tuples (length masks.now) (pieces (length masks.now) cells.now) × (length cells.now ≤ room_limit) × Blank (length masks.now) counts.old }
+    requires products { ProductsOf masks.now ways.now }
     ensures { LeftBy masks.now (length masks.now) (pieces (length masks.now) cells.now) result }
 {
     count_live(cells, masks, counts);
-    supported(masks, counts)
+    supported(masks, ways, counts)
 }
 
 // The same. A pair of variables needs few counts, and clearing them is most of the work.
-fn left_of(cells: &[u16], masks: &[u64]) -> [u64; 8]
-    requires { Tuples (length masks.now) (pieces (length masks.now) cells.now) × (length cells.now ≤ room_limit) }
+fn left_of(cells: &[u16], masks: &[u64], ways: &[usize]) -> [u64; 8]
+    requires tuples { Tuples (length masks.now) (pieces (length masks.now) cells.now) × (length cells.now ≤ room_limit) }
+    requires products { ProductsOf masks.now ways.now }
     ensures { LeftBy masks.now (length masks.now) (pieces (length masks.now) cells.now) result }
 {
     if masks.len() == 2 {
         let mut few = [0u16; 128];
-        return left_by(cells, masks, &mut few);
+        return left_by(cells, masks, ways, &mut few);
     }
     let mut counts = [0u16; 512];
-    left_by(cells, masks, &mut counts)
+    left_by(cells, masks, ways, &mut counts)
 }
 
 // Drops from the lists of the variables what has no support. The answer is the set of the variables whose lists change.
@@ -114,9 +128,11 @@ pub(crate) fn filter(scope: &[u16], cells: &[u16], lists: &mut [u64]) -> u64
 {
     let gathered = gather(scope, lists);
     let masks = &gathered[..scope.len()];
-    if too_few(cells.len() / scope.len(), masks) {
+    let products = ways_of(masks);
+    let ways = &products[..scope.len()];
+    if too_few(cells.len() / scope.len(), ways) {
         return 0;
     }
-    let left = left_of(cells, masks);
+    let left = left_of(cells, masks, ways);
     keep_each(scope, &left, lists)
 }

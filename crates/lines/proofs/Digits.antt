@@ -2,7 +2,7 @@
 use mathlib.Core.Path.{◌≡◌, refl, sym, ap, ◌∙◌}
 use mathlib.Core.Bool.{Bool, cond}
 use mathlib.Core.List.{List, [], ◌∷◌, ◌++◌, append_assoc, append-nil}
-use Prim.Native.Nat.{ℕ, zero, suc, ◌+◌, ◌*◌, ◌/◌, ◌%◌, ◌^◌, ◌≤◌, ◌<◌}
+use Prim.Native.Nat.{ℕ, zero, suc, ◌+◌, ◌*◌, ◌/◌, ◌%◌, ◌^◌, ◌≤◌, ◌<◌, zero-le}
 use native.Mathlib.Nat.{pow-suc}
 use native.Mathlib.Numerals.{add-one}
 use native.Mathlib.Omega.{arith}
@@ -28,6 +28,34 @@ spell_below k n h = pick (ltb n 10) _ _ (lt-ltb n 10 h)
 spell_from : (k n : ℕ) → 10 ≤ n → spell (suc k) n ≡ spell k (n / 10) ++ ((48 + n % 10) ∷ [])
 unfolding spell
 spell_from k n h = pick (ltb n 10) _ _ (le-ltb n 10 h)
+
+-- a number of at most k + 1 digits has them all in k + 1 turns
+spell_enough : (k n : ℕ) → n < 10 ^ suc k → spell (suc k) n ≡ spell (suc (suc k)) n
+spell_enough zero n h = spell_below 0 n (omega arith) ∙ sym (spell_below 1 n (omega arith))
+spell_enough (suc k) n h = go (dec_lt n 10) (spell_enough k (n / 10))
+  where
+    go : Dec (n < 10) → (n / 10 < 10 ^ suc k → spell (suc k) (n / 10) ≡ spell (suc (suc k)) (n / 10)) → spell (suc (suc k)) n ≡ spell (suc (suc (suc k))) n
+    go (yes q) i = spell_below (suc k) n q ∙ sym (spell_below (suc (suc k)) n q)
+    go (no q) i =
+        let p = pow-suc 10 (suc k) in
+        spell_from (suc k) n (omega arith)
+        ∙ ap (λ (x : List ℕ). x ++ ((48 + n % 10) ∷ [])) (i (omega arith))
+        ∙ sym (spell_from (suc (suc k)) n (omega arith))
+
+spell_short : (j k n : ℕ) → n < 10 ^ suc k → length (spell j n) ≤ suc k
+unfolding spell
+spell_short zero k n h = zero-le
+spell_short (suc j) k n h = go k h (dec_lt n 10) (λ k. spell_short j k (n / 10))
+  where
+    go : (k : ℕ) → n < 10 ^ suc k → Dec (n < 10) → ((k : ℕ) → n / 10 < 10 ^ suc k → length (spell j (n / 10)) ≤ suc k) → length (spell (suc j) n) ≤ suc k
+    go k h (yes q) i = let e = ap length (spell_below j n q) in omega arith
+    go zero h (no q) i = absurd (omega arith)
+    go (suc k) h (no q) i =
+        let p = pow-suc 10 (suc k) in
+        let e = ap length (spell_from j n (omega arith)) in
+        let f = length-append (spell j (n / 10)) ((48 + n % 10) ∷ []) in
+        let l = i k (omega arith) in
+        omega arith
 
 -- with enough turns they are the digits that std writes
 spell_same : (k n : ℕ) → n < 10 ^ suc k → n < 2 ^ 64 → spell (suc k) n ≡ Fmt.decimal n

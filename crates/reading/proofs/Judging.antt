@@ -1,22 +1,26 @@
 -- One number: what its token says, and what the tests say of it. Assumes nothing.
-use mathlib.Core.Path.{◌≡◌, refl, sym, ap, ◌∙◌, subst}
+use mathlib.Core.Path.{◌≡◌, refl, sym, ap, ◌∙◌, subst, subst⁻¹}
 use mathlib.Core.Bool.{Bool, true, false, cond, true≢false}
 use mathlib.Core.List.{List}
-use Prim.Native.Nat.{ℕ, ◌≤◌}
+use Prim.Native.Nat.{ℕ, ◌^◌, ◌≤◌, ◌<◌}
 use native.Mathlib.Omega.{arith}
 use borrow.Author.Tests.{eq-eqb, ne_eqb, eqb-true, ltb-false}
 use lib.Dec.{eqb}
-use Rattle.std.specs.Prelude.{Result, Ok, Err}
+use Rattle.std.specs.Prelude.{Result, Ok, Err, ⊤}
 use Rattle.meaning.specs.Refusals.{Refusal, first}
 use Rattle.meaning.proofs.Proper.{number_above, Passed, passed}
 use Rattle.text.specs.declared.Number.{Number}
 use Rattle.text.specs.declared.Malformed.{Malformed}
 use Rattle.text.specs.Tokens.{number_at}
+use Rattle.text.proofs.Bounds.{number_small}
 use Rattle.refusals.specs.declared.Refusal as Refusals
 use Rattle.refusals.specs.declared.Refusal.TheVariants as Wrong
 use Rattle.refusals.specs.Numbers.{table_of}
 use Rattle.reading.specs.Reading.{Reading, fault, got, Tests, judged, number_judged, number, range}
-use Rattle.reading.specs.Steps.{number_of, ComesTo}
+use Rattle.reading.specs.Steps.{number_of, ComesTo, Says, Judges}
+use Rattle.reading.specs.Promises.{answered, JudgedBy, ComesToNumberJudged}
+use Rattle.reading.specs.declared.Fault.{Fault}
+use Rattle.reading.specs.declared.Read.{Read}
 use Rattle.reading.proofs.Readings.{is_fault, what_or}
 
 -- ---- what the tests say of what was read
@@ -44,6 +48,22 @@ module _ (text : List ℕ) (tests : Tests) (at : ℕ) where
     pub passed_step : first (tests n.value) ≡ 0 → ComesTo (number text tests at) (Ok (record { what = n.value; after = n.after }))
     unfolding number
     passed_step f = record { told = (n.value, ap (number_judged tests) (sym said) ∙ judged_passed (tests n.value) n.start (got n.value n.after) f, refl) }
+
+-- ---- what a judge says is what some tests say, so the step is that of the reading by these tests
+
+module _ (text : List ℕ) (at : ℕ) {Answers : ℕ → Result ⊤ Refusals.Refusal → Type 0} {r : Result (Read ℕ) Fault} where
+  pub judged_comes : ComesToNumberJudged text at Answers r → (tests : Tests) → ((v : ℕ) → v < 2 ^ 32 → Judges (Answers v) (tests v)) → ComesTo (number text tests at) r
+  judged_comes came tests judges = by_token (number_at text at) refl came
+    where
+      by_answer : (n : Number) → Ok n ≡ number_at text at → (said : Result ⊤ Refusals.Refusal) → Says (tests n.value) said → ComesTo (number text tests at) (answered n said)
+      by_answer n e (Ok _) s = passed_step text tests at e s
+      by_answer n e (Err refusal) s = refused_step text tests at e refusal s
+
+      by_token : (token : Result Number Malformed) → token ≡ number_at text at → JudgedBy Answers token r → ComesTo (number text tests at) r
+      by_token (Err m) e same = subst⁻¹ (λ (step : Result (Read ℕ) Fault). ComesTo (number text tests at) step) same (malformed_step text tests at e)
+      by_token (Ok n) e (said, answers, same) =
+          let small = number_small text at n (sym e) in
+          subst⁻¹ (λ (step : Result (Read ℕ) Fault). ComesTo (number text tests at) step) same (by_answer n e said (judges n.value (omega (arith, small)) said answers))
 
 -- ---- what was read has passed its tests
 

@@ -9,10 +9,13 @@ use Rattle.std.specs.Prelude.{Result, Ok, Err, ⊤}
 use Rattle.reading.specs.Reading.{Reading, Tests}
 use Rattle.reading.specs.Steps.{ComesTo, Judges}
 use Rattle.reading.specs.declared.Fault.{Fault}
+use Rattle.text.specs.declared.Number.{Number}
 use Rattle.text.specs.declared.Malformed.{Malformed}
-use Rattle.reading.specs.Promises.{IsFaultOf, ComesToNumberJudged, ComesToAnyNumber, ComesToNumberWithin, ComesToNumberBelow, ComesToName, ComesToEnd}
+use Rattle.text.specs.Tokens.{number_at}
+use Rattle.reading.specs.Promises.{IsFaultOf, answered, JudgedBy, ComesToNumberJudged, ComesToAnyNumber, ComesToNumberWithin, ComesToNumberBelow, ComesToName, ComesToEnd}
 use Rattle.reading.proofs.Readings.{fault_of, is_fault, what_or, place_or}
 use Rattle.reading.proofs.Coming.{Step}
+use Rattle.reading.proofs.Judging.{judged_comes}
 
 -- the steps of one reading
 step_unique : (reading : Reading ℕ) (s t : Step ℕ) → ComesTo reading s → ComesTo reading t → s ≡ t
@@ -36,7 +39,16 @@ module _ (text : List ℕ) (at : ℕ) (r s : Step ℕ) where
   -- whatever the judge is, as long as what it says follows some tests
   pub number_judged_unique : (Says : ℕ → Result ⊤ Refusal → Type 0) (tests : Tests) → ((v : ℕ) → v < 2 ^ 32 → Judges (Says v) (tests v))
       → ComesToNumberJudged text at Says r → ComesToNumberJudged text at Says s → r ≡ s
-  number_judged_unique Says tests j a b = step_unique _ r s (a tests j) (b tests j)
+  number_judged_unique Says tests j a b = step_unique _ r s (judged_comes text at a tests j) (judged_comes text at b tests j)
+
+  -- also one that follows no tests, as long as it says one thing of each number
+  pub judged_once_unique : (Says : ℕ → Result ⊤ Refusal → Type 0) → ((v : ℕ) (a b : Result ⊤ Refusal) → Says v a → Says v b → a ≡ b)
+      → ComesToNumberJudged text at Says r → ComesToNumberJudged text at Says s → r ≡ s
+  judged_once_unique Says once a b = by_token (number_at text at) a b
+    where
+      by_token : (token : Result Number Malformed) → JudgedBy Says token r → JudgedBy Says token s → r ≡ s
+      by_token (Err m) a b = a ∙ sym b
+      by_token (Ok n) (l, said, a) (m, also, b) = a ∙ ap (answered n) (once n.value l m said also) ∙ sym b
 
   pub any_number_unique : ComesToAnyNumber text at r → ComesToAnyNumber text at s → r ≡ s
   any_number_unique = step_unique _ r s

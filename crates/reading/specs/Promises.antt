@@ -1,22 +1,34 @@
 -- What the functions of `reading` promise: the step r is that of reading on from a place of the text.
-use Rattle.std.specs.Prelude.{◌≡◌, List, [], ◌∷◌, ℕ, ◌^◌, ◌<◌, leb, Result, ⊤}
+use Rattle.std.specs.Prelude.{◌≡◌, List, [], ◌∷◌, ℕ, leb, Result, Ok, Err, ⊤}
 use Rattle.refusals.specs.declared.Refusal.{Refusal}
 use Rattle.refusals.specs.declared.Refusal.TheVariants as Wrong
 use Rattle.refusals.specs.Numbers.{table_of}
+use Rattle.text.specs.declared.Number.{Number}
 use Rattle.text.specs.declared.Malformed.{Malformed}
+use Rattle.text.specs.Tokens.{number_at}
 use Rattle.reading.specs.declared.Fault.{Fault}
 use Rattle.reading.specs.declared.Read.{Read}
-use Rattle.reading.specs.Reading.{Tests, number, any_number, range, name, ended}
-use Rattle.reading.specs.Steps.{ComesTo, Judges}
+use Rattle.reading.specs.Reading.{number, any_number, range, name, ended}
+use Rattle.reading.specs.Steps.{ComesTo}
 
 -- 7 at the start of the token
 abbrev pub IsFaultOf : Malformed → Fault → Type 0
 IsFaultOf m f = f ≡ record { refusal = Wrong.Malformed; at = m.start }
 
+-- the number and the place after it where the judge lets it through, else the judge's refusal at the number's start
+abbrev pub answered : Number → Result ⊤ Refusal → Result (Read ℕ) Fault
+answered n (Ok _) = Ok (record { what = n.value; after = n.after })
+answered n (Err refusal) = Err (record { refusal = refusal; at = n.start })
+
+-- what is no number is refused; of a number the step is what the judge says of it
+abbrev pub JudgedBy : (ℕ → Result ⊤ Refusal → Type 0) → Result Number Malformed → Result (Read ℕ) Fault → Type 0
+JudgedBy Says (Err m) r = r ≡ Err (record { refusal = Wrong.Malformed; at = m.start })
+JudgedBy Says (Ok n) r = (said : Result ⊤ Refusal) × Says n.value said × (r ≡ answered n said)
+
 module _ (text : List ℕ) (at : ℕ) where
-  -- a number that a judge may say these things of: the step is that of the reading by any tests that what it says follows
+  -- a number of which a judge may say these things
   abbrev pub ComesToNumberJudged : (ℕ → Result ⊤ Refusal → Type 0) → Result (Read ℕ) Fault → Type 0
-  ComesToNumberJudged Says r = (tests : Tests) → ((v : ℕ) → v < 2 ^ 32 → Judges (Says v) (tests v)) → ComesTo (number text tests at) r
+  ComesToNumberJudged Says r = JudgedBy Says (number_at text at) r
 
   -- any number
   abbrev pub ComesToAnyNumber : Result (Read ℕ) Fault → Type 0

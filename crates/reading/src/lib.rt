@@ -62,7 +62,8 @@ pub fn number_judged<J: FnOnce(usize) -> Result<(), Refusal>>(
 pub fn any_number(text: &[u8], at: usize) -> Step<usize>
     ensures { ComesToAnyNumber text.now at result }
 {
-    number_judged(text, at, |_| Ok(()))
+    let Read { what, after } = number_judged(text, at, |_| Ok(()))?;
+    Ok(Read { what, after })
 }
 
 // A number from low to high.

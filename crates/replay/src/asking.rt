@@ -1,7 +1,7 @@
 // Calls that change nothing: the values left, solving, and comparing profiles.
 use crate::faults::BadLine;
 use crate::keeping::Desk;
-use crate::lists::{self, COLON, NUMBERS};
+use crate::lists::{self, COLON};
 use crate::numbers::number;
 use crate::saying::{PLACES, Reply};
 use crate::words::Words;
@@ -27,9 +27,9 @@ pub(crate) fn solve(desk: &Desk, words: Words) -> Result<Reply, BadLine> {
 
 // `compare NUMBERS.. : NUMBERS..`
 pub(crate) fn compare(mut words: Words) -> Result<Reply, BadLine> {
-    let mut first = [0; NUMBERS];
+    let mut first = lists::room(0);
     let first = lists::read(&mut words, COLON, &mut first)?;
-    let mut second = [0; NUMBERS];
+    let mut second = lists::room(0);
     let second = lists::read(&mut words, None, &mut second)?;
     Ok(better(first, second))
 }

@@ -1,4 +1,4 @@
-// Pins, bans and take-backs, on the state that the program keeps and lends to `desk` for each.
+// Calls that decide and take back.
 use crate::faults::BadLine;
 use crate::keeping::Desk;
 use crate::numbers::number;
@@ -13,22 +13,19 @@ fn variable_and_value(mut words: Words) -> Result<(u8, u8), BadLine> {
 }
 
 // `pin VARIABLE VALUE`
-#[tactic(auto, using(state::proofs::Runs::reached_after))]
 pub(crate) fn pin(desk: &mut Desk, words: Words) -> Result<Reply, BadLine> {
     let (variable, value) = variable_and_value(words)?;
-    Ok(desk::pin(&mut desk.state, variable, value).into())
+    Ok(desk.pin(variable, value).into())
 }
 
 // `ban VARIABLE VALUE`
-#[tactic(auto, using(state::proofs::Runs::reached_after))]
 pub(crate) fn ban(desk: &mut Desk, words: Words) -> Result<Reply, BadLine> {
     let (variable, value) = variable_and_value(words)?;
-    Ok(desk::ban(&mut desk.state, variable, value).into())
+    Ok(desk.ban(variable, value).into())
 }
 
 // `back DEPTH`
-#[tactic(auto, using(state::proofs::Runs::reached_after))]
 pub(crate) fn take_back(desk: &mut Desk, words: Words) -> Result<Reply, BadLine> {
     let depth = number(words.only()?)?;
-    Ok(desk::take_back(&mut desk.state, depth).into())
+    Ok(desk.take_back(depth).into())
 }

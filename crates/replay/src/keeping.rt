@@ -1,4 +1,5 @@
 // What the program keeps between the lines of a script.
+ghost use Rattle.std.specs.Prelude.{◌≡◌};
 ghost use Rattle.state.specs.Holds.{Reached};
 
 use crate::faults::BadLine;
@@ -35,6 +36,7 @@ impl Desk {
     // Keeps the state that a call has left, and hands on what the call answered.
     pub(crate) fn keep(&mut self, after: AfterCall) -> Reply
         requires { Reached after.state }
+        ensures { self.new ≡ after.state }
     {
         self.state = after.state;
         after.answer.into()

@@ -1,5 +1,5 @@
 // Lists of numbers in a line.
-ghost use Rattle.std.specs.Prelude.{IfOk, ◌≤◌, length};
+ghost use Rattle.std.specs.Prelude.{IfOk, ◌≡◌, ◌≤◌, length};
 
 use crate::faults::BadLine;
 use crate::numbers::number;
@@ -8,7 +8,14 @@ use std::num::ParseIntError;
 use std::str::FromStr;
 
 // More numbers than a line can hold, each with a blank before it.
-pub(crate) const NUMBERS: usize = 16_384;
+const NUMBERS: usize = 16_384;
+
+// Room for a list of numbers.
+pub(crate) fn room<T: Copy>(blank: T) -> [T; NUMBERS]
+    ensures { 16384 ≡ length result }
+{
+    [blank; NUMBERS]
+}
 
 // The word that ends a list which is not the line's last.
 pub(crate) const COLON: Option<&[u8]> = Some(b":");

@@ -1,6 +1,8 @@
 // Reads a script of calls from standard input, one to a line, and writes a line for each: what the library answers.
 #![tactic(auto)]
 
+ghost use Rattle.std.specs.Prelude.{◌≡◌, length};
+
 use faults::{BadLine, Fault};
 use keeping::Desk;
 use saying::Reply;
@@ -11,6 +13,7 @@ mod asking;
 mod deciding;
 mod faults;
 mod keeping;
+mod lending;
 mod lists;
 mod numbers;
 mod saying;
@@ -18,6 +21,13 @@ mod words;
 
 // The most bytes of a script.
 const SCRIPT: usize = 32_768;
+
+// One byte more than the program takes, so that a longer script is seen to be too long.
+fn room() -> [u8; SCRIPT + 1]
+    ensures { 32769 ≡ length result }
+{
+    [0; SCRIPT + 1]
+}
 
 // Makes the call that a line says.
 fn answer(desk: &mut Desk, line: &[u8]) -> Result<Reply, BadLine> {
@@ -50,9 +60,9 @@ fn run(rt: &HostRuntime, script: &[u8]) -> Result<(), Fault> {
     Ok(())
 }
 
-// Reads the script, one byte more than the program takes, so that a longer one is seen to be too long.
+// Reads the script, and runs it where it is not too long.
 fn run_input(rt: &HostRuntime) -> Result<(), Fault> {
-    let mut text = [0; SCRIPT + 1];
+    let mut text = room();
     let length = input::read_full(&mut rt.stdin(), &mut text);
     if SCRIPT < length {
         return Err(Fault::TooLong);

@@ -1,6 +1,8 @@
 // Runs the program's library on each file that an argument names, and writes the name and the answer.
 #![tactic(auto)]
 
+ghost use Rattle.std.specs.Prelude.{◌≡◌, length};
+
 use lines::LINES;
 use std::env::FillError;
 use std::fs::File;
@@ -11,10 +13,16 @@ use std::{io, str};
 // The most bytes of a file's name.
 const PATH: usize = 4096;
 
+// One byte more than the program takes.
+fn room() -> [u8; reply::TEXT + 1]
+    ensures { 32769 ≡ length result }
+{
+    [0; reply::TEXT + 1]
+}
+
 // Writes the answer to what `from` gives.
 fn answer(rt: &impl Print, from: &mut impl Read) {
-    // one byte more than the program takes
-    let mut text = [0; reply::TEXT + 1];
+    let mut text = room();
     let length = input::read_full(from, &mut text);
     let mut out = [0; LINES];
     let count = reply::answer(&text[..length], &mut out);

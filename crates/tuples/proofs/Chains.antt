@@ -4,9 +4,9 @@ use mathlib.Core.Bool.{Bool, ◌&&◌, ◌||◌}
 use mathlib.Core.List.{List, [], ◌∷◌, ◌++◌}
 use Prim.Native.Nat.{ℕ, ◌<◌}
 use lib.Dec.{eqb}
-use lib.ListN.{length, drop, length-append}
+use lib.ListN.{length, take, drop, length-append}
 use lib.Pointwise.{pointwise}
-use lib.Seq.{take_at, drop-append_seam}
+use lib.Seq.{take_at, take-length, drop-append_seam}
 use native.Mathlib.Omega.{arith}
 use denote.Ref.{Bor}
 use Rattle.std.specs.List.{list_any}
@@ -23,6 +23,10 @@ same_pointwise [] [] = refl
 same_pointwise [] (y ∷ v) = refl
 same_pointwise (x ∷ u) [] = refl
 same_pointwise (x ∷ u) (y ∷ v) = ap (λ (b : Bool). eqb x y && b) (same_pointwise u v)
+
+-- the part of a list that is as long as the list
+pub whole : (l : List ℕ) → take (length l) l ≡ l
+whole = take-length
 
 pub some_any : {A : Type 0} (p : A → Bool) (xs : List A) → some p xs ≡ list_any p xs
 unfolding some

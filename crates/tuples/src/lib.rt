@@ -8,7 +8,7 @@ ghost use Rattle.tuples.specs.Rows.{AreSame, IsListed};
 pub const KEYS: usize = 16384;
 
 // Whether two tuples are the same.
-#[tactic(auto, using(crate::proofs::Chains::same_pointwise))]
+#[tactic(auto, using(crate::proofs::Chains::same_pointwise, crate::proofs::Chains::whole))]
 pub fn are_same(a: &[u8], b: &[u8]) -> bool
     ensures { AreSame a.now b.now result }
 {
